@@ -29,7 +29,7 @@ unsafe extern "C" {
     ) -> u64;
 }
 
-/// The bit offset of the right validity behind the left one.
+/// By how many bits the right validity begins after the left one.
 const STRIDE: usize = 64;
 
 /// Windows at differing places in words.

@@ -158,7 +158,7 @@ impl Keyed {
     }
 }
 
-/// Creates columns of `count` rows each, one behind the other. About one row in sixteen differs.
+/// Creates columns of `count` rows each, one after the other. About one row in sixteen differs.
 pub fn structs(count: usize) -> Pair<Vec<i32>> {
     let numbers = &mut Numbers::new(521_288_629);
     let left: Vec<i32> = (0..COLUMNS * count)
@@ -176,7 +176,7 @@ pub const NUMBER_COLUMNS: usize = 2;
 
 /// Structs of numbers and of a text. About half are equal.
 pub struct Mixed {
-    /// Columns one behind the other.
+    /// Columns one after the other.
     pub numbers: Pair<Vec<i32>>,
     pub texts: Pair<Texts>,
 }

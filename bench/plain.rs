@@ -114,7 +114,7 @@ pub struct Window<'a> {
 }
 
 impl<'a> Window<'a> {
-    /// Returns the words in which the bits lie, with the word behind them if there is one, and the
+    /// Returns the words in which the bits lie, with the word after them if there is one, and the
     /// number of bits before the first bit of the window.
     #[inline]
     fn parts(&self) -> (&'a [u64], u32) {
@@ -130,25 +130,25 @@ impl<'a> Window<'a> {
     }
 }
 
-/// Returns the 64 bits from bit `by` of `low` on. `high` is the word behind it.
+/// Returns the 64 bits from bit `by` of `low` on. `high` is the word after it.
 #[inline(always)]
 fn join(low: u64, high: u64, by: u32) -> u64 {
     (low >> by) | ((high << 1) << (63 - by))
 }
 
-/// Returns how many of the first `count` words have a word behind them.
+/// Returns how many of the first `count` words have a word after them.
 #[inline]
 fn whole_of(words: &[u64], count: usize) -> usize {
     words.len().saturating_sub(1).min(count)
 }
 
-/// Returns the first words, and the words behind each of them, as two slices of one length.
+/// Returns the first words, and the words after each of them, as two slices of one length.
 #[inline]
 fn neighbours(words: &[u64], whole: usize) -> (&[u64], &[u64]) {
     (&words[..whole], &words[words.len().min(1)..][..whole])
 }
 
-/// Returns the 64 bits from bit `by` of word `k` on, with zeros behind the words.
+/// Returns the 64 bits from bit `by` of word `k` on, with zeros past the last word.
 #[inline]
 fn outer_word(words: &[u64], k: usize, by: u32) -> u64 {
     let word = |k: usize| words.get(k).copied().unwrap_or(0);

@@ -151,7 +151,11 @@ fn compare<T: Value>(lists: &[Rows<T>], test: impl Fn(T, T) -> bool, out: &mut S
     put(left.iter().zip(right).map(|(a, b)| Some(test((*a)?, (*b)?))), out)
 }
 
-fn compare_scalar<T: Value>(lists: &[Rows<T>], test: impl Fn(T, T) -> bool, out: &mut String) -> Answer {
+fn compare_scalar<T: Value>(
+    lists: &[Rows<T>],
+    test: impl Fn(T, T) -> bool,
+    out: &mut String,
+) -> Answer {
     let (rows, right) = two(lists)?;
     let b = scalar(right)?;
     put(rows.iter().map(|a| Some(test((*a)?, b))), out)
@@ -273,8 +277,12 @@ fn numeric<T: Number>(name: &str, lists: &[Rows<T>], out: &mut String) -> Option
         }));
     }
     Some(match name {
-        "abs" => one(lists).and_then(|rows| put(rows.iter().map(|a| a.map(|a| T::wrapped(a.whole().abs()))), out)),
-        "neg" => one(lists).and_then(|rows| put(rows.iter().map(|a| a.map(|a| T::wrapped(-a.whole()))), out)),
+        "abs" => one(lists).and_then(|rows| {
+            put(rows.iter().map(|a| a.map(|a| T::wrapped(a.whole().abs()))), out)
+        }),
+        "neg" => one(lists).and_then(|rows| {
+            put(rows.iter().map(|a| a.map(|a| T::wrapped(-a.whole()))), out)
+        }),
         "sum" => one(lists).and_then(|rows| {
             let sum = rows.iter().flatten().fold(0i128, |sum, a| sum.wrapping_add(a.whole()));
             put_found(Some(T::wrapped(sum)), out)
@@ -336,7 +344,8 @@ const GENERAL: [&str; 28] = [
     "eq", "ne", "lt", "le", "gt", "ge", "eq_missing", "ne_missing", "eq_broadcast", "ne_broadcast",
     "lt_broadcast", "le_broadcast", "gt_broadcast", "ge_broadcast", "eq_missing_broadcast",
     "ne_missing_broadcast", "count_ones", "count_zeros", "leading_ones", "leading_zeros",
-    "trailing_ones", "trailing_zeros", "reduce_and", "reduce_or", "reduce_xor", "min", "max", "min_max",
+    "trailing_ones", "trailing_zeros", "reduce_and", "reduce_or", "reduce_xor", "min", "max",
+    "min_max",
 ];
 
 const NUMERIC: [&str; 26] = [
@@ -349,7 +358,11 @@ const NUMERIC: [&str; 26] = [
 
 const TRUTHS: [&str; 3] = ["unique", "n_unique", "n_unique_non_null"];
 
-fn answer_numbers<'a, T: Number>(name: &str, words: impl Iterator<Item = &'a str>, out: &mut String) -> Answer {
+fn answer_numbers<'a, T: Number>(
+    name: &str,
+    words: impl Iterator<Item = &'a str>,
+    out: &mut String,
+) -> Answer {
     if TRUTHS.contains(&name) {
         return Err(Fault::TypeName);
     }

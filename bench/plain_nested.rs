@@ -66,7 +66,7 @@ pub fn equal_fixed_lists(left: &[i32], right: &[i32]) -> Vec<u64> {
     compare_pairs(left, right, |l, r| l == r)
 }
 
-/// Compares structs of columns that stand one behind the other.
+/// Compares structs of columns that stand one after the other.
 #[inline(never)]
 pub fn equal_structs(left: &[i32], right: &[i32]) -> Vec<u64> {
     let count = left.len() / COLUMNS;

@@ -109,7 +109,7 @@ pub fn less_texts(left: &Texts, right: &Texts) -> Vec<u64> {
 const BLOCK: usize = 16;
 
 /// Returns string `i` as a number of sixteen bytes, the first one being the greatest, with zeros
-/// behind its bytes, and its length. None where it is longer, or fewer bytes lie there.
+/// after its bytes, and its length. None where it is longer, or fewer bytes lie there.
 #[inline]
 fn block_of((offsets, bytes): Parts<'_>, i: usize) -> Option<(u128, usize)> {
     let from = offsets[i] as usize;

@@ -210,10 +210,10 @@ fn fail(name: &str, why: &std::io::Error) -> ! {
 /// The lines of a run. Those of a round that is not the last one go to standard error, and the
 /// final ones to standard output and to the file of JSON.
 pub struct Report {
-    /// Whether the figures are rough.
+    /// True if the figures are rough.
     quick: bool,
     json: Option<Json>,
-    /// What is printed before the next line.
+    /// A title to print before the next line.
     title: Option<String>,
     lines: usize,
     over: usize,

@@ -2,7 +2,7 @@
 
 use crate::operands::Numbers;
 
-/// Strings one behind the other.
+/// Strings one after the other.
 pub struct Texts {
     /// The offset at which each string begins, and last the end of the last one.
     pub offsets: Vec<i32>,
@@ -88,7 +88,7 @@ pub struct Pair<T> {
     pub right: T,
 }
 
-/// Strings of `least` to `most` letters behind a prefix.
+/// Strings of `least` to `most` letters after a prefix.
 struct Shape {
     prefix: &'static [u8],
     least: u64,

@@ -163,14 +163,14 @@ impl Best {
     }
 }
 
-/// What a run of the program is told.
+/// The arguments of a run.
 pub struct Settings {
     /// Words of the names of the kernels to run. Without words all are.
     pub words: Vec<String>,
     /// The file that gets the final lines as JSON.
     pub json: Option<String>,
     pub rounds: usize,
-    /// Whether rough figures do.
+    /// True if rough figures suffice.
     pub quick: bool,
 }
 

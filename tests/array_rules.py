@@ -6,18 +6,21 @@ it are written in the same way, and are made before the one that holds them. So 
 told is that of the innermost array first, then of the next one beside it, and at last that of the
 whole. Of one array it is the first of these that holds:
 
-1. Lengths do not fit: a validity has not exactly one bit a row; or of byte strings of one size, or lists of one width,
-   there are not size times rows bytes, or width times rows items, in whole numbers without a bound. Between offsets
-   there is one row less than there are offsets, and none where there is no offset.
-2. Offsets of row i are not good: they do not rise, or the first is negative, or the second is greater than the number
-   of bytes or items. Without an offset that is row 0. A single offset has no row, and is itself at least 0 and at most
-   that number; else it is row 0.
-3. Field i does not fit: column i has not as many rows as the struct, or not the type of the field; where all pairs fit
-   and there are more of the one than of the other, i is the lesser count.
-4. View i is not good: a row of at most 12 bytes stands in the view, with zeros behind it; a longer one stands in the
-   buffer of that number, from the offset on and whole, and its first four bytes stand in the view too.
+1. Lengths do not fit: a validity has not exactly one bit a row; or of byte strings of one size, or
+   lists of one width, there are not size times rows bytes, or width times rows items, in whole
+   numbers without a bound. Between offsets there is one row less than there are offsets, and none
+   where there is no offset.
+2. Offsets of row i are not good: they do not rise, or the first is negative, or the second is
+   greater than the number of bytes or items. Without an offset that is row 0. A single offset has
+   no row, and is itself at least 0 and at most that number; else it is row 0.
+3. Field i does not fit: column i has not as many rows as the struct, or not the type of the field;
+   where all pairs fit and there are more of the one than of the other, i is the lesser count.
+4. View i is not good: a row of at most 12 bytes stands in the view, with zeros after it; a longer
+   one stands in the buffer of that number, from the offset on and whole, and its first four bytes
+   stand in the view too.
 5. Row i is not UTF-8, of texts: the bytes of that row by themselves.
-6. Key i is out of range: a key that no validity masks is negative, or not less than the number of entries.
+6. Key i is out of range: a key that no validity masks is negative, or not less than the number of
+   entries.
 
 All of these but the last are asked of null rows too. Row i is always the first such row.
 """
@@ -440,7 +443,7 @@ def array_of(words):
 
 
 def named_array(words):
-    """The array of a line, behind its name and the sign: behind it no word stands."""
+    """The array of a line, after its name and the sign: after it no word stands."""
     words.take("shared")
     array = array_of(words)
     if not words.are_read():

@@ -1,7 +1,7 @@
 """Arrays at random as words, and changes of single words, after which the parts may make no array.
 
 A word is kept with what it is and with what its neighbours say of it, so that a change can be a
-likely one: an offset just behind the bytes, a validity one bit short, a text cut within a
+likely one: an offset just past the bytes, a validity one bit short, a text cut within a
 character. Mostly a line can be read after it.
 """
 from array_rules import KEYS, OFFSETS, SHORT, TYPES
@@ -80,7 +80,7 @@ class Maker:
         self.tokens.append((str(word), role, known))
 
     def array(self, n, depth, kind=None):
-        """An array of so many rows, which holds arrays at most so deep; behind other rows and
+        """An array of so many rows, which holds arrays at most so deep; after other rows and
         before others."""
         choose = self.random.choice
         kind = kind or choose(KINDS if depth else LEAVES)
@@ -96,9 +96,10 @@ class Maker:
         shape = self.random.randrange(10)
         if shape < 4:
             return None
-        digits = f"{self.random.getrandbits(n or 1) | (self.random.getrandbits(n or 1) if shape < 8 else 0):0{n}b}"[
-            :n
-        ]
+        bits = self.random.getrandbits(n or 1)
+        if shape < 8:
+            bits |= self.random.getrandbits(n or 1)
+        digits = f"{bits:0{n}b}"[:n]
         return n * str(shape % 2) if shape == 9 else digits
 
     def put_validity(self, n, present):
@@ -121,7 +122,7 @@ class Maker:
         return "".join(pieces).encode()
 
     def data(self, strings):
-        """Strings after one another, with bytes before and behind, and the offsets."""
+        """Strings after one another, with bytes before and after, and the offsets."""
         before, behind = (self.random.choice((b"", b"", b"\xff", b"\x80z")) for _ in range(2))
         offsets = [len(before)]
         for string in strings:
@@ -389,7 +390,7 @@ class Mutation:
         self.set(tokens, i, "x" + data.hex())
 
     def view(self, tokens, i):
-        """A view with another length, prefix, buffer or offset, or bytes behind a short row."""
+        """A view with another length, prefix, buffer or offset, or bytes after a short row."""
         word, _, buffers = tokens[i]
         n, first, number, at = (
             int.from_bytes(bytes.fromhex(word[1:])[k : k + 4], "little") for k in (0, 4, 8, 12)

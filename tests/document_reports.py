@@ -29,7 +29,7 @@ WORD = re.compile(r"true|false|null|-?(?:0|[1-9][0-9]*)(?:\.[0-9]+)?(?:[eE][-+]?
 NO_JSON, NO_OBJECT, TWICE = "not valid JSON", "not a JSON object", "an object has a name twice"
 WIDE = "an exponent has more than 30 digits"
 
-# a difference between two values: where it is, and both parts, of which one may be missing
+# a difference between two values: where it is, and both parts; one may be missing
 Change = collections.namedtuple("Change", "path left right")
 # the pairs of rows that changed with their changes, the rows without a partner, and how many pairs
 # are the same
@@ -188,7 +188,8 @@ def compact(value, string=string_text):
     if isinstance(value, list):
         return f"[{','.join(compact(child, string) for child in value)}]"
     if isinstance(value, Object):
-        return f"{{{','.join(f'{string(name)}:{compact(child, string)}' for name, child in value.members)}}}"
+        members = (f"{string(name)}:{compact(child, string)}" for name, child in value.members)
+        return f"{{{','.join(members)}}}"
     return json.dumps(value)
 
 
@@ -244,7 +245,7 @@ def kind_of(found):
 
 
 def tokens_of(text):
-    """Makes the tokens of a text, each with its kind and its place: a string and a colon behind it
+    """Makes the tokens of a text, each with its kind and its place: a string and a colon after it
     are a name."""
     return (
         (kind_of(found), found.start(), found[1] or found[0]) for found in LEXEME.finditer(text)
@@ -312,13 +313,33 @@ def fault_text(number, line, what):
     )
 
 
+MOST_NAMES, MOST_BYTES = 12, 60
+
+
+def cut_name(name):
+    """Returns a name in quotes, cut if it is long."""
+    start = name.encode()[:MOST_BYTES].decode(errors="ignore")
+    return table_reports.in_quotes(start) + (".." if start != name else "")
+
+
+def members_hint(line):
+    """Returns the hint after what is said of a key that a document lacks."""
+    names = [name for name, _ in tree_of(line)[0].members]
+    if not names:
+        return ""
+    more = f" and {len(names) - MOST_NAMES} more" if len(names) > MOST_NAMES else ""
+    return f": the document has {', '.join(map(cut_name, names[:MOST_NAMES]))}{more}"
+
+
 def hint_of(number, line, what):
-    """Returns the hint behind what is said of a line that is no document, or an empty text. It is said of
-    files that can be read once more."""
+    """Returns the hint after what is said of a line that is no document, or an empty text. It is
+    said of files that can be read once more."""
     try:
         text = line.decode()
     except UnicodeDecodeError:
         return ""
+    if what.endswith(" is missing") and isinstance(tree_of(line)[0], Object):
+        return members_hint(line)
     if what not in (NO_JSON, NO_OBJECT):
         return ""
     bare = text.strip(" \t\r")
@@ -753,8 +774,8 @@ def warnings(words, left, right):
         if documents and not any(has_part(it, steps_of(word)) for it in documents)
     ]
     return b"".join(
-        f"dunkelva: warning: --only: no document has a part at {table_reports.in_quotes(word)}\n".encode()
-        for word in lacking
+        f"dunkelva: warning: --only: no document has a part at {quoted}\n".encode()
+        for quoted in map(table_reports.in_quotes, lacking)
     )
 
 

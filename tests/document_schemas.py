@@ -286,7 +286,8 @@ def change_complaint(program, folder, pair):
     if wrong := run_complaint(command, folder, status, [*found, last]):
         return wrong
     lines = [*map(change_line, found)]
-    lines.append(", ".join(f"{n} {way}" for way, n in counts.items()).replace(" same", " the same."))
+    total = ", ".join(f"{n} {way}" for way, n in counts.items())
+    lines.append(total.replace(" same", " the same."))
     lines += [skipped_line(file, it.skipped) for file, it in zip(FILES, sides) if it.skipped]
     ran = runs.run(command, None, folder)
     text = "".join(line + "\n" for line in lines)

@@ -2,7 +2,7 @@
 figures in a file.
 
 Part `k` is made from the seed and `k` alone, so it is the same whatever the number of processes. A
-run with a file of figures begins behind the last part that an earlier run with that file began.
+run with a file of figures begins after the last part that an earlier run with that file began.
 """
 import argparse
 import collections

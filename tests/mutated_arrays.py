@@ -10,13 +10,14 @@ Some hundreds go to the program in one run. `array_rules.py` says of the same wo
 and of each is asked:
 
 - whether the parts make an array, and else for which fault and row they don't;
-- of an array its rows, and of one row whether it is null; that it equals a copy or itself in every row, and the good
-  array in the rows that are the same, in at most as many comparisons as it has leaf slots; and how many these are. Of
-  one with very many rows (of nulls, or of strings and lists of width 0) only how many, and how many a validity masks.
+- of an array its rows, and of one row whether it is null; that it equals a copy or itself in every
+  row, and the good array in the rows that are the same, in at most as many comparisons as it has
+  leaf slots; and how many these are. Of one with very many rows (of nulls, or of strings and lists
+  of width 0) only how many, and how many a validity masks.
 
 Some cases make structs of fields and columns that need not fit (`struct_try_new`). Beside these
 every 50th text has its words dropped, exchanged or replaced, or its bytes changed, and goes to the
-program in a run of its own, behind a good case: the run ends with status 1 and names the line if it
+program in a run of its own, after a good case: the run ends with status 1 and names the line if it
 can't be read, and else goes on. Last come arrays nested up to 3,000 deep: those runs end with
 status 0 or 1, whatever the depth that can be read, and print only right answers.
 
@@ -210,7 +211,7 @@ def mutated(chance):
 
 
 def case_that_ends(chance, given):
-    """A text behind a good case, in a run of its own; whether it can be read, and if so what is
+    """A text after a good case, in a run of its own; whether it can be read, and if so what is
     printed."""
     before = array_case(chance, text_of(good_array(chance)), heading="# before")
     data = given.replace(b"\n", b" ")
@@ -370,7 +371,10 @@ def broken_faults(program, given, printed, named):
         and all(map(is_right, told, printed))
     ):
         return []
-    how = f"{runs.ending(ran)} and not {status}, {told!r:.300} and not {printed!r:.300}, {ran.said[:300]!r}"
+    how = (
+        f"{runs.ending(ran)} and not {status}, {told!r:.300} and not {printed!r:.300}, "
+        f"{ran.said[:300]!r}"
+    )
     return [(f"{given[-300:]!r}: {how}", given)]
 
 

@@ -254,11 +254,13 @@ static ran run(const pair *of, int first, int second, int is_piped) {
 
 /* ---- what is asked of runs */
 
-/* Says whether nothing is said but that no document has a part at a path of --only. */
+/* Says whether nothing is said but that no document has a part at a path of --only, or that no column but the key is
+   compared. */
 static int only_warns(const char *said) {
     static const char *const warning = "dunkelva: warning: --only: no document has a part at ";
+    static const char *const alone = "dunkelva: warning: no column but the key is compared\n";
     for (; *said; said = strchr(said, '\n') + 1)
-        if (!begins(said, warning) || !strchr(said, '\n')) return 0;
+        if ((!begins(said, warning) && !begins(said, alone)) || !strchr(said, '\n')) return 0;
     return 1;
 }
 
@@ -277,7 +279,7 @@ static const char *wrong_alone(const ran *it) {
     return differ != it->status ? "a status that is not that of the counts" : NULL;
 }
 
-/* Returns what is said behind the name of a file. */
+/* Returns what is said after the name of a file. */
 static const char *fault_of(const ran *it) {
     const char *at = strstr(it->said + strlen("dunkelva: "), ": ");
     return at ? at : it->said;
@@ -287,7 +289,7 @@ static const char *fault_of(const ran *it) {
 static size_t fault_length(const char *fault) {
     static const char *const hints[] = {": the columns are ", ": for JSON lines give --input ndjson", ": did you mean ",
                                         ": is ", ": it looks like JSON lines", ": the file ", ": the line is empty",
-                                        ": JSON has no ", ": \""};
+                                        ": JSON has no ", ": \"", ": the document has "};
     size_t length = strcspn(fault, "\n");
     for (size_t it = 0; it < sizeof hints / sizeof *hints; it++) {
         const char *hint = strstr(fault, hints[it]);

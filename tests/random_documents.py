@@ -514,14 +514,17 @@ def made_bound(numbers, relative, chance):
     """Makes a bound, which is about as large as some differences that are planted."""
     if relative:
         return chance.choice(
-            ("0", "1", "2", "0.9", "0.8999", "0.25", "0.1", "1e-1", "1E-2", "1.0e-9", "1.99", "10")
+            ("0", "1", "2", "0.9", "0.8999", "0.25", "0.1", "1e-1", "1E-2", "1.0e-9", "1.99", "1.5")
         )
     sign, digits, tens = document_reports.number_parts(
         chance.choice(numbers).text if numbers else "1"
     )
     tens = tens + chance.choice((0, 0, 0, -1, 1, len(digits), 400, -400))
     tens = max(min(tens, BIGGEST), -BIGGEST)
-    return f"{chance.choice(('0', '1', '2', '3', '5', '8', '9.0', '0.9', '20', '999999999999999999'))}e{tens}"
+    digits = chance.choice(
+        ("0", "1", "2", "3", "5", "8", "9.0", "0.9", "20", "999999999999999999")
+    )
+    return f"{digits}e{tens}"
 
 
 def made_tolerances(values, chance):

@@ -8,7 +8,8 @@ times: its bytes, words, numbers, bars, signs, spaces, operation and type. Some 
 about a half can still be answered. Lines go to the program some thousands a run. Of each run is
 asked:
 
-- it ends, with status 1 where a line is refused and 0 where none is, and says nothing on standard error;
+- it ends, with status 1 where a line is refused and 0 where none is, and says nothing on standard
+  error;
 - it prints a line for each line, which is the answer of `tests/outside/lines.py`, or
   `line N: refused: WORD` with the number of the line and the word that the model refuses it by.
 
@@ -225,7 +226,7 @@ class Mutation:
             words.insert(self.random.randrange(min(2, len(words)), len(words) + 1), "|")
 
     def other_number(self, words):
-        """A row at an end of a type, behind it, or anywhere."""
+        """A row at an end of a type, past it, or anywhere."""
         kind = self.random.choice(TYPES[:-1]) if self.is_one_in(6) or len(words) < 2 else words[1]
         i = self.place(words, 2)
         if i is None or words[i] == "|":

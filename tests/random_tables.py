@@ -67,7 +67,7 @@ KEYS = (
 )
 # an option splits names at commas, so that none has one
 NAMES = ("id", "name", "city", "amount", "note", "x y", 'a"b', as_bytes("Å"))
-# numbers, each as its digits and the tens behind them
+# numbers, each as its digits and the tens after them
 NUMBERS = (
     ("0", 0),
     ("1", 0),
@@ -144,7 +144,7 @@ def table_of(records, lines, has_header):
 
 
 def number_text(digits, tens, chance):
-    """Returns a number of these digits, with tens behind them, written in one of many ways."""
+    """Returns a number of these digits, with tens after them, written in one of many ways."""
     more = chance.choice((0, 0, 1, 2, 3))
     digits, tens = digits + "0" * more, tens - more
     point = chance.randrange(-2, len(digits) + 1)

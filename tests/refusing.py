@@ -11,7 +11,7 @@ environment names:
 | `BYTEWISE` | a read or a write moves a byte at most |
 | `READS_INTERRUPTED`, `WRITES_INTERRUPTED` | every other read or write is interrupted by a signal |
 | `CHANGED=FILE`, `CHANGE_AT=N` | before the read of this number the file is cut or grows |
-| `CHANGE_TO=SIZE`, `CHANGE_BY=TEXT` | to how many bytes, or the text that comes behind its end |
+| `CHANGE_TO=SIZE`, `CHANGE_BY=TEXT` | to how many bytes, or the text that comes after its end |
 | `ASKED` | at the end the counts are said on standard error |
 """
 import os
@@ -92,11 +92,12 @@ static int fault_of(long number, long fails, int is_interrupted) {
     return is_interrupted && number % 2 ? EINTR : 0;
 }
 
-/* Cuts a file, or puts a text behind it. */
+/* Cuts a file, or puts a text after it. */
 static void change(const char *name, const char *by) {
     int file = open(name, O_WRONLY | O_APPEND);
     if (file < 0) abort();
-    if (by ? syscall(SYS_write, file, by, strlen(by)) < 0 : ftruncate(file, number_of("CHANGE_TO"))) abort();
+    if (by ? syscall(SYS_write, file, by, strlen(by)) < 0 : ftruncate(file, number_of("CHANGE_TO")))
+        abort();
     close(file);
 }
 

@@ -30,7 +30,8 @@ SOURCE = r"""
 #include <sys/wait.h>
 #include <unistd.h>
 
-enum { ASKED = 100, TOLD = 101, SECONDS = 60, MOST_BYTES = 1 << 17, MOST_WORDS = 1000, MOST_VARIABLES = 1000 };
+enum { ASKED = 100, TOLD = 101, SECONDS = 60 };
+enum { MOST_BYTES = 1 << 17, MOST_WORDS = 1000, MOST_VARIABLES = 1000 };
 
 /* Reads so many bytes; returns 0 where there are fewer. */
 static int take(int fd, char *to, size_t size) {
@@ -70,7 +71,8 @@ static void serve(int *count, char ***words) {
         int status, number = 0, variables = 0;
         if (!take(ASKED, (char *)&size, 4)) _exit(0);
         if (size < 1 || size >= MOST_BYTES || !take(ASKED, text, size)) _exit(98);
-        for (char *at = text + 1; at < text + size && number < MOST_WORDS; at += strlen(at) + 1) block[number++] = at;
+        for (char *at = text + 1; at < text + size && number < MOST_WORDS; at += strlen(at) + 1)
+            block[number++] = at;
         block[number] = NULL;
         while (environ[variables] && variables < MOST_VARIABLES) variables++;
         memcpy(block + number + 1, environ, variables * sizeof *environ);
@@ -86,16 +88,19 @@ static void serve(int *count, char ***words) {
             *words = block;
             return;
         }
-        if (child < 0 || waitpid(child, &status, 0) != child || write(TOLD, &status, 4) != 4) _exit(96);
+        if (child < 0 || waitpid(child, &status, 0) != child || write(TOLD, &status, 4) != 4)
+            _exit(96);
     }
 }
 
 typedef void handler(void);
-typedef int start(int (*)(int, char **, char **), int, char **, handler *, handler *, handler *, void *);
+typedef int start(int (*)(int, char **, char **), int, char **, handler *, handler *, handler *,
+                  void *);
 
-/* Stands in for the function of the C library that runs what a program has before `main`, and `main`. */
-int __libc_start_main(int (*main)(int, char **, char **), int count, char **words, handler *init, handler *fini,
-                      handler *end, void *stack) {
+/* Stands in for the function of the C library that runs what a program has before `main`, and
+   `main`. */
+int __libc_start_main(int (*main)(int, char **, char **), int count, char **words, handler *init,
+                      handler *fini, handler *end, void *stack) {
     start *real = (start *)dlsym(RTLD_NEXT, "__libc_start_main");
     serve(&count, &words);
     return real(main, count, words, init, fini, end, stack);

@@ -294,7 +294,10 @@ def wide_number(pair):
         for line, row in zip(table.lines, rows):
             for name, cell in zip(found.names, row):
                 if options["numbers"] and name not in options.get("texts", []) and is_wide(cell):
-                    return f"{file}: line {line} has a number in column {name} whose exponent has more than 30 digits"
+                    return (
+                        f"{file}: line {line} has a number in column {name} whose exponent has "
+                        "more than 30 digits"
+                    )
     return None
 
 
@@ -382,13 +385,33 @@ def is_report(printed, pair, has_lines):
     return objects == wanted_objects
 
 
+KEYS_ALONE = b"dunkelva: warning: no column but the key is compared\n"
+
+
+def warned(pair):
+    """Returns the warning that a run over two files prints which ends well: that the key alone is
+    compared, where a file has other columns and the options do not ask for that."""
+    left, right, options = pair.left.names, pair.right.names, pair.options
+    keys = options["keys"]
+    asks = all(name in keys for name in options.get("only", [None]))
+    if not keys or asks or options.get("piped") is not None:
+        return b""
+    others = any(name not in keys for name in [*left, *right])
+    shared = any(
+        name in right and name not in keys and is_chosen(name, options) for name in left
+    )
+    return KEYS_ALONE if others and not shared else b""
+
+
 def is_right(ran, pair, has_lines=True):
     """Returns whether a run over two tables that can be compared did as it has to."""
     said = choice_fault(pair)
     if said:
         # a list of columns may follow
         start = f"dunkelva: {said}".encode("latin-1")
-        ends = ran.said[len(start) :].startswith((b"\n", b": the columns of ", b": did you mean ", b": is "))
+        ends = ran.said[len(start) :].startswith(
+            (b"\n", b": the columns of ", b": did you mean ", b": is ")
+        )
         return ran.status == 2 and not ran.printed and ran.said.startswith(start) and ends
     if wide_number(pair):
         return ran.status == 2 and not ran.printed and b"more than 30 digits" in ran.said
@@ -398,7 +421,7 @@ def is_right(ran, pair, has_lines=True):
     if said:
         return ran.status == 2 and ran.said.endswith(b" have the same key\n") and not ran.printed
     return (
-        not ran.said
+        ran.said == warned(pair)
         and ran.status == status_of(comparison_of(pair))
         and is_report(ran.printed, pair, has_lines)
     )

@@ -111,7 +111,8 @@ def main(program):
         both = sum((folder / name).stat().st_size for name in ("in", "out"))
         (our_time, memory), (their_time, _) = best(ours), best(theirs)
         print(
-            f"{LINES} lines, {both / 1e6:.0f} MB in and out: {our_time:.2f} s, plain Rust {their_time:.2f} s, ratio {our_time / their_time:.2f}; "
+            f"{LINES} lines, {both / 1e6:.0f} MB in and out: {our_time:.2f} s, plain Rust "
+            f"{their_time:.2f} s, ratio {our_time / their_time:.2f}; "
             f"{memory / 1e6:.0f} MB, {memory / both:.2f} x in and out"
         )
         (folder / "many").write_text(10 * text, encoding="utf-8")
@@ -119,7 +120,8 @@ def main(program):
             [run(program, folder / "many", folder / "out") for _ in range(MANY_RUNS)]
         )
         print(
-            f"{10 * LINES} lines: {many_time:.2f} s, {many_time / our_time:.1f} x; {many_memory / 1e6:.0f} MB, {many_memory / memory:.1f} x"
+            f"{10 * LINES} lines: {many_time:.2f} s, {many_time / our_time:.1f} x; "
+            f"{many_memory / 1e6:.0f} MB, {many_memory / memory:.1f} x"
         )
 
 

@@ -26,8 +26,9 @@ KIND = re.compile(rb'\{"kind":"(\w+)"')
 # cells and keys are texts or null, so that no other member with such a name is a number
 ROW = re.compile(rb'"(?:left_)?row":([0-9]+)')
 COUNTS = re.compile(
-    rb'\{"kind":"counts","changed":(\d+),"removed":(\d+),"added":(\d+),"same":(\d+),"not_shown":(\d+),?'
-    rb'(?:"columns":\{(.*)\})?("left_skipped":\d+,"right_skipped":\d+)?\}\n'
+    rb'\{"kind":"counts","changed":(\d+),"removed":(\d+),"added":(\d+),"same":(\d+),'
+    rb'"not_shown":(\d+),?(?:"columns":\{(.*)\})?'
+    rb'("left_skipped":\d+,"right_skipped":\d+)?\}\n'
 )
 SKIPPED = re.compile(rb'"left_skipped":(\d+),"right_skipped":(\d+)')
 COLUMN = re.compile(rb'("(?:[^"\\]|\\.)*"):(\d+)')
@@ -52,7 +53,7 @@ def document_place_of(line):
 
 
 def option_of(options, name):
-    """Returns what stands behind an option, if it is given."""
+    """Returns what stands after an option, if it is given."""
     for at, word in enumerate(options):
         if word == name:
             return options[at + 1]

@@ -19,10 +19,10 @@ from typing import Any, Callable, Dict, Iterator, List, Tuple
 import numpy as np
 import pandas as pd
 
-sys.path.insert(0, str(pathlib.Path(__file__).resolve().parents[2] / "bindings/python"))
+sys.path.append(str(pathlib.Path(__file__).resolve().parents[2] / "bindings/python"))
 
 import dunkelva  # noqa: E402
-from dunkelva import _structs  # noqa: E402
+from dunkelva import _plain, _structs  # noqa: E402
 from dunkelva._types import Type  # noqa: E402
 
 _masked_array: Any = np.ma.masked_array  # which has no types
@@ -155,6 +155,8 @@ def best(calls: Dict[str, Callable[[], Any]]) -> Dict[str, float]:
 
 def main() -> None:
     """Times all calls, and prints a table."""
+    helper = "no helper" if _plain.equal_plain is _plain.equal_by_ctypes else "its helper"
+    print(f"{pathlib.Path(dunkelva.__file__).parent}, with {helper}", file=sys.stderr)
     print(f"{'ns a row':26}{'rows':>10}{'dunkelva':>10}{'numpy':>10}{'pandas':>10}")
     for rows in [int(text) for text in sys.argv[1:]] or [16_384, 1_000_000, 8_000_000]:
         for what, calls in lines(rows):

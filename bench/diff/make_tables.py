@@ -1,7 +1,8 @@
 """Writes two CSV files of the same columns: of the left rows one in a hundred is changed on the
 right, one in a thousand is missing there, as many are new, and the right rows lie in another order.
 
-usage: make_tables.py ROWS FOLDER      (FOLDER/left.csv and FOLDER/right.csv, 106 MB each for 1,000,000 rows)
+usage: make_tables.py ROWS FOLDER      (FOLDER/left.csv and FOLDER/right.csv, 106 MB each for
+                                       1,000,000 rows)
 """
 import csv
 import pathlib

@@ -16,7 +16,8 @@ def main(left_file, right_file, key):
     )
     counts = joined["_merge"].value_counts()
     print(
-        f"{differ.any(axis=1).sum()} changed, {counts['left_only']} removed, {counts['right_only']} added"
+        f"{differ.any(axis=1).sum()} changed, {counts['left_only']} removed, "
+        f"{counts['right_only']} added"
     )
     print(differ.sum().to_dict())
 

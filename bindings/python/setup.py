@@ -1,7 +1,8 @@
-"""Builds the package with the library for C in it.
+"""Builds the package with the library for C in it, and with its helper.
 
 The library is the one that DUNKELVA_LIBRARY names, or that `make library` left in out/library. It
-is a shared library of x86-64 Linux and no module of Python, so a wheel serves every Python 3.
+is a shared library of x86-64 Linux and no module of Python. The helper keeps to the stable ABI, and
+the package does without it where it can't be compiled or loaded. So a wheel serves every Python 3.
 """
 import os
 import pathlib
@@ -9,7 +10,7 @@ import re
 import shutil
 import subprocess
 
-from setuptools import setup
+from setuptools import Extension, setup
 from setuptools.command.build_py import build_py
 from setuptools.dist import Distribution
 from wheel.bdist_wheel import bdist_wheel
@@ -18,12 +19,17 @@ HERE = pathlib.Path(__file__).resolve().parent
 TOP = HERE.parent.parent
 
 
+def header():
+    """Finds the header of the library."""
+    for file in (HERE / "dunkelva.h", TOP / "bindings/c/dunkelva.h"):
+        if file.exists():
+            return file
+    raise SystemExit("dunkelva: there is no header dunkelva.h of the library")
+
+
 def version():
     """Returns the version that the header of the library has."""
-    for header in (HERE / "dunkelva.h", TOP / "bindings/c/dunkelva.h"):
-        if header.exists():
-            return re.search(r'DUNKELVA_VERSION "(.*)"', header.read_text())[1]
-    raise SystemExit("dunkelva: there is no header dunkelva.h of the library")
+    return re.search(r'DUNKELVA_VERSION "(.*)"', header().read_text())[1]
 
 
 class WithLibrary(build_py):
@@ -56,5 +62,10 @@ class WithBinary(Distribution):
         return True
 
 
-setup(version=version(), cmdclass={"build_py": WithLibrary, "bdist_wheel": ForLinux},
-      distclass=WithBinary)
+HELPER = Extension("dunkelva._quick", ["quick.c"], include_dirs=[str(header().parent)],
+                   depends=[str(header())], py_limited_api=True, optional=True,
+                   extra_compile_args=["-std=c99", "-O2", "-g0"],
+                   extra_link_args=["-Wl,--strip-all", "-Wl,-z,relro,-z,now,-z,noexecstack"])
+
+setup(version=version(), ext_modules=[HELPER], distclass=WithBinary,
+      cmdclass={"build_py": WithLibrary, "bdist_wheel": ForLinux})

@@ -9,7 +9,7 @@ A type is a format ("i", "u", "w:3", "d:9,2" ..) or one of
 A row is None, or a truth value, a number, bytes (of strings, of "tin"), a list of items, a list of
 pairs (of maps), or a tuple of the fields of a struct. Floats are given as numbers with their bits.
 
-How rows are kept is left to chance: rows before and behind the window, what lies under a null, a
+How rows are kept is left to chance: rows before and after the window, what lies under a null, a
 validity where no row is null, items and bytes that no row uses, entries that no key names, the
 buffers of views, odd addresses.
 """
@@ -356,7 +356,7 @@ def make_array(kind, rows, chance):
 
 
 def add_rows(buffers, kind, rows, chance):
-    """Adds the buffers of rows behind the validity, and returns the arrays inside."""
+    """Adds the buffers of rows after the validity, and returns the arrays inside."""
     if isinstance(kind, str):
         add_flat(buffers, kind, rows, chance)
         return []

@@ -2,7 +2,7 @@
  *
  * The linker puts a reader of every lent byte, and the model, in front of the proved library
  * (--wrap): both must return one status and the same bits. Of each call is asked that it writes
- * nothing where it fails, nothing behind its last byte, that a column is equal to itself, that
+ * nothing where it fails, nothing past its last byte, that a column is equal to itself, that
  * exchanged sides give the same bits, and that a window gives the bits of its rows.
  */
 #include "dunkelva.h"

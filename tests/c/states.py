@@ -15,7 +15,7 @@ import sys
 import arrow
 from flat import FORMATS, limits
 
-# What lies behind the bits of a state, and has to stay.
+# What lies past the bits of a state, and has to stay.
 BEHIND = 0xA5A5A5A5A5A5A5A5
 
 

@@ -817,7 +817,7 @@ static void try_states(void) {
   struct made *texts = make("u", 0, 3, NULL, NULL, NULL);
   count(dunkelva_unique_append(&state, &texts->type, &texts->array) == DUNKELVA_NOT_SERVED,
         "a state of texts");
-  uint64_t others[2] = {4, UINT64_MAX << 5}; /* 0, and bits behind the range */
+  uint64_t others[2] = {4, UINT64_MAX << 5}; /* 0, and bits past the range */
   struct dunkelva_unique other = {least, greatest, others, 2, 0};
   count(dunkelva_unique_merge(&other, &state) == DUNKELVA_OK &&
             others[0] == ((uint64_t)1 << 7 | 5) && others[1] == UINT64_MAX << 4 &&

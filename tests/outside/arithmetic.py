@@ -1,6 +1,7 @@
 """The answers to questions of arithmetic, found from rows that are whole numbers or null.
 
-usage: arithmetic.py             prints the file data/arithmetic_sweeps.txt: questions, and their answers
+usage: arithmetic.py             prints the file data/arithmetic_sweeps.txt: questions, and their
+                                 answers
        arithmetic.py FILE..      prints the files, with the answers that are found here
 
 A row is null where an operand is null or a divisor is 0. Else it is the exact answer in whole
@@ -31,7 +32,7 @@ def floor_quotient(a, b):
 
 
 def truncated_quotient(a, b):
-    """a / b without what stands behind the point."""
+    """a / b without what stands after the point."""
     quotient = abs(a) // abs(b)
     return quotient if (a < 0) == (b < 0) else -quotient
 
@@ -330,7 +331,7 @@ class Chance:
         return wrapped(kind, self.random.choice((size, -size)))
 
     def array(self, name, kind, n, kept=""):
-        """An array of n rows, which may begin behind other rows, and of which some may be null."""
+        """An array of n rows, which may begin after other rows, and of which some may be null."""
         at = self.random.randint(0, 9)
         count = at + n + self.random.randint(0, 3)
         values = [self.number(kind) for _ in range(count)]
@@ -357,7 +358,10 @@ def by_columns(left, right):
 def random_cases(kind, chance):
     keeping = [(left, right) for left in ("", "shared") for right in ("", "shared")]
     for left, right in keeping:
-        yield f"# {kind}: {left or 'owned'} rows beside {right or 'owned'} ones, of slices, with nulls over any numbers"
+        yield (
+            f"# {kind}: {left or 'owned'} rows beside {right or 'owned'} ones, of slices, with "
+            "nulls over any numbers"
+        )
         yield chance.array("left", kind, 14, left)
         yield chance.array("right", kind, 14, right)
         yield from by_columns("left", "right")
@@ -402,7 +406,10 @@ def by_masks(array, n, chance):
 def overlapping_cases(kind, chance):
     """Slices of one array on both sides, slices beside a number, and sums."""
     for kept in ("", "shared"):
-        yield f"# {kind}: slices of one array of {kept or 'owned'} rows, which overlap, and sums under bits"
+        yield (
+            f"# {kind}: slices of one array of {kept or 'owned'} rows, which overlap, and sums "
+            "under bits"
+        )
         yield chance.array("whole", kind, 70, kept)
         at, n = chance.random.randint(1, 4), chance.random.randint(64, 66)
         here, there = f"slice whole 0 {n}", f"slice whole {at} {n}"

@@ -2,9 +2,10 @@
 the rows are.
 
 usage: deep.py                  prints the file data/deep_mixed.txt: questions, and their answers
-       deep.py --all PROGRAM    asks a built program those questions, and those that are too large for the gate: 5,000
-                                levels, structs of 10,000 fields, and 10,000,000 items. Prints the time of each case, and
-                                ends with status 1 where an answer differs
+       deep.py --all PROGRAM    asks a built program those questions, and those that are too large
+                                for the gate: 5,000 levels, structs of 10,000 fields, and 10,000,000
+                                items. Prints the time of each case, and ends with status 1 where an
+                                answer differs
 
 A level has one row for each row of the array that it holds: a list of that row alone, between
 offsets or of width 1, a struct whose one field `f` has it, or a key that names it. A row of the
@@ -361,7 +362,7 @@ def many_lists_case(lists):
 
 
 def one_width_case(width, lists, kind, last):
-    """So many lists of one length behind three items that no list has, but the last list has `last`
+    """So many lists of one length after three items that no list has, but the last list has `last`
     items more. Every eleventh item differs on the right. The same of lists from the sixth on."""
     places = [3 + width * i for i in range(lists)] + [3 + width * lists + last]
     count = places[-1]
@@ -372,15 +373,19 @@ def one_width_case(width, lists, kind, last):
     same = [items["l"][a:b] == items["r"][a:b] for a, b in zip(places, places[1:])]
     leaves = {
         "i32": lambda numbers: f"i32 {count} {' '.join(map(str, numbers))} -",
-        "utf8": lambda numbers: f"utf8 {count + 1} {' '.join(map(str, range(count + 1)))} x{''.join(f'{97 + n:x}' for n in numbers)} -",
+        "utf8": lambda numbers: (
+            f"utf8 {count + 1} {' '.join(map(str, range(count + 1)))} "
+            f"x{''.join(f'{97 + n:x}' for n in numbers)} -"
+        ),
     }
     names, pairs = {}, []
     for at in (0, 5):
         for leaf, words in leaves.items():
             for side, numbers in items.items():
-                names[
-                    f"{side}_{leaf}_{at}"
-                ] = f"{at} {lists - at} {kind} {lists + 1} {' '.join(map(str, places))} - 0 {count} {words(numbers)}"
+                names[f"{side}_{leaf}_{at}"] = (
+                    f"{at} {lists - at} {kind} {lists + 1} {' '.join(map(str, places))} - 0 "
+                    f"{count} {words(numbers)}"
+                )
             counted = f"{bits_of(same[at:])} in {count - places[at]} comparisons"
             pairs.append(
                 (f"array_tot_eq_missing_kernel_counted l_{leaf}_{at} r_{leaf}_{at}", counted)
@@ -455,7 +460,8 @@ def run_all(program):
         is_well = status == 0 and printed == f"standard input: {asked} as recorded\n"
         well = well and is_well
         print(
-            f"{lines[0]}: {'as expected' if is_well else f'NOT as expected, status {status}'}, {seconds:.2f} s",
+            f"{lines[0]}: {'as expected' if is_well else f'NOT as expected, status {status}'}, "
+            f"{seconds:.2f} s",
             flush=True,
         )
     return well

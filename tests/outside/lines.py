@@ -293,7 +293,8 @@ def output_of(data):
             answer = line_answer(line.decode("utf-8"))
         except (Refused, UnicodeDecodeError) as reason:
             refused += 1
-            answer = f"line {number}: refused: {'op' if isinstance(reason, UnicodeDecodeError) else reason}"
+            word = "op" if isinstance(reason, UnicodeDecodeError) else reason
+            answer = f"line {number}: refused: {word}"
         output += answer.encode() + b"\n"
     return f"lines {len(lines)} refused {refused} x{output.hex()}"
 

@@ -2,8 +2,9 @@
 from their rows.
 
 usage: nested.py FILE..    prints the files, with the answers that are found here
-       nested.py --check   finds the answers anew to all questions of data/ on arrays in which a dictionary lies, and on
-                           states of keys, and compares them with those that stand there; status 1 where one differs
+       nested.py --check   finds the answers anew to all questions of data/ on arrays in which a
+                           dictionary lies, and on states of keys, and compares them with those that
+                           stand there; status 1 where one differs
 
 What the calls mean, and which rows are null, is said by `slices_arrays.py`, `slices_answers.py` and
 `states.py`; here are the arrays that words make, and the calls that no slice is asked. Arrays that
@@ -29,7 +30,7 @@ from slices_arrays import (
     is_null,
 )
 
-# those whose answer is no matter of rows, or that answer bits at null rows too
+# those whose result is no matter of rows, or that return bits at null rows too
 OTHERS = (
     "dtype",
     "clone_type",
@@ -62,7 +63,7 @@ STATES = (
     "stored_keys",
 )
 
-# what is made by a loop, or has more entries than a list holds: `deep.py` answers these
+# what is made by a loop, or has more entries than a list holds: `deep.py` computes these
 ELSEWHERE = ("deep_mixed.txt",)
 
 

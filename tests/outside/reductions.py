@@ -1,7 +1,8 @@
 """The answers to questions on counts of bits, reductions, sums and extremes, found from lists of
 rows.
 
-usage: reductions.py             prints the file data/reductions_sweeps.txt: questions, and their answers
+usage: reductions.py             prints the file data/reductions_sweeps.txt: questions, and their
+                                 answers
        reductions.py FILE..      prints the files, with the answers that are found here
 
 A row is a whole number, a truth value, a byte string or null. The bits of a number are those of the
@@ -285,7 +286,7 @@ LENGTHS = {"no null": (0, 1, 64, 130), "nulls": (1, 63, 64, 65, 130), "nulls alo
 
 
 class Columns(Chance):
-    """Arrays at random, the same in each run, whose rows begin behind others and whose validity
+    """Arrays at random, the same in each run, whose rows begin after others and whose validity
     begins in mid-word."""
 
     def presences(self, nulls, n):
@@ -298,7 +299,7 @@ class Columns(Chance):
 
     def column(self, nulls, n, present_value, other_value):
         """The stored values and a validity: of n rows, of some in front of them, the first place,
-        and some behind."""
+        and some after."""
         before, behind = self.random.choice((0, 1, 3, 5, 7)), self.random.randint(0, 3)
         if nulls == "no null":
             values = [other_value() for _ in range(before)]

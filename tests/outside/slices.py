@@ -2,7 +2,8 @@
 rows.
 
 usage: slices.py --part              prints the file data/slices.txt: questions, and their answers
-       slices.py --all PROGRAM       asks a built program of all slices; status 1 where an answer is another one
+       slices.py --all PROGRAM       asks a built program of all slices; status 1 where an answer is
+                                     another one
 
 Of each kind there is an array of 70 rows, of which every third is null (of null arrays each), over
 stored values that are no row of it. It is sliced at each place from 0 to 70, with the lengths 0, 1,
@@ -29,7 +30,7 @@ from slices_kinds import ALL_KINDS, DictKind, FixedListKind, Keeper, ListKind, N
 
 ROWS = 70
 LENGTHS = (0, 1, 63, 64, 65)
-# the places of the part that is stored as data, of which each array has every second one
+# the places of the part that is stored as data; each array has every second one
 PLACES = (0, 1, 2, 3, 5, 6, 7, 31, 62, 63, 64, 65, 69, 70)
 # of the questions beside the first three the part asks every fourth one
 SHARE = 4

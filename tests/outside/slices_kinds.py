@@ -66,7 +66,7 @@ class Keeper(Columns):
         return f"{len(offsets)} {' '.join(map(str, offsets))} x{b''.join(values).hex()}"
 
     def viewed(self, values):
-        """Byte strings by views, the long ones in one of three buffers, or one behind the other,
+        """Byte strings by views, the long ones in one of three buffers, or one after the other,
         the last one first."""
         if self.has_junk:
             return self.spread(values, [b"\xffz", b"", b"abcdz"], values)

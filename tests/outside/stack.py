@@ -86,7 +86,8 @@ def print_row(program, kinds, name, question, is_read):
     most = READ_DEPTH if is_read else MOST_STRUCTS if "struct" in kinds else FAR_DEPTH
     said = "no end" if levels is None else f"{levels} levels"
     print(
-        f"{', '.join(kinds):20} {name:26} {level:8.0f} {said:>16} {tried(program, lines_at, levels, most)}",
+        f"{', '.join(kinds):20} {name:26} {level:8.0f} {said:>16} "
+        f"{tried(program, lines_at, levels, most)}",
         flush=True,
     )
 

@@ -4,7 +4,7 @@ usage: states.py FILE..      prints the files, with the answers that are found h
 
 A state is a range, a set of values of it, and whether there was a null. An array adds its present
 rows to the set, and a state adds its set; the rows of a state are its set in order, and a null
-behind it. The values of a dictionary's rows are the keys, whatever they name; what was seen is told
+after it. The values of a dictionary's rows are the keys, whatever they name; what was seen is told
 by the dictionary of the state, in which a key that names a null entry is null: it is no value of
 the range, and where it was seen there was a null. A key without an entry is a value.
 """

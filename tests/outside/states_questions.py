@@ -1,6 +1,7 @@
 """Questions on states of distinct values, at random, the same in each run.
 
-usage: states_questions.py    prints the file data/states_sweeps.txt: questions, and the answers of `states.py`
+usage: states_questions.py    prints the file data/states_sweeps.txt: questions, and the answers of
+                              `states.py`
 
 A state has a slot for each value of its range and one for null; up to 128 stand in one word, and
 more in a bitmap. In a chunk without nulls it is asked before each 512 rows whether all values were
@@ -45,7 +46,7 @@ def spans(kind):
 
 
 class Chunks(Columns):
-    """Chunks of columns at random, which begin behind other rows, over any values."""
+    """Chunks of columns at random, which begin after other rows, over any values."""
 
     def chance(self, share):
         return self.random.random() < share
@@ -227,7 +228,8 @@ def range_cases(kind, chance):
     words = [f"{at} {at + size}" for at in (low, 0, high - 9) for size in (0, 1, 9)]
     for word in words:
         yield f"same_range_numbers {kind} {word} {chance.random.choice((word, *words))}"
-        yield f"one_range_numbers {kind} {chance.some_leaves((word, word, word, word, chance.random.choice(words)))}"
+        leaves = (word, word, word, word, chance.random.choice(words))
+        yield f"one_range_numbers {kind} {chance.some_leaves(leaves)}"
 
 
 def truth_cases(chance):

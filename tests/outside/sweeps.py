@@ -62,7 +62,7 @@ def block_answers(width, n):
 print("# calls at all pairs of places of words")
 for n in LENGTHS:
     for call, numbers in pair_answers(n):
-        # at whichever places the lists lie, the answer is the same
+        # at whichever places the lists lie, the result is the same
         print(f"sweep {call} {n} -> {summed(PLACES * PLACES * numbers)}")
 print("# runs at all places of words")
 for n in LENGTHS:

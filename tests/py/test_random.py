@@ -12,6 +12,7 @@ import numpy as np
 from hypothesis import given, strategies as st
 
 import dunkelva
+from dunkelva import _plain
 from exported import Exported, Streamed, arrow, column, trees
 
 _LEAVES: List[st.SearchStrategy[Any]] = [
@@ -172,11 +173,16 @@ def test_layouts_of_numpy(rows: Any, number: int) -> None:
     other = rows.copy()
     other[len(wanted) // 2:len(wanted) // 2 + 1] = np.uint64(number).astype(rows.dtype)
     pairs = list(zip(wanted, other.tolist()))
-    assert dunkelva.equal(rows, other).tolist() == [one == another for one, another in pairs]
+    same = [one == another for one, another in pairs]
+    assert dunkelva.equal(rows, other).tolist() == same
+    for way in (_plain.equal_by_ctypes, _plain.by_helper()):
+        assert way is not None
+        found = way(rows, other)
+        assert found is None or found.tolist() == same
     present: List[Any] = sorted({row for row in wanted if row is not None})
     seen = present + [None] * (None in wanted)
-    found: Any = dunkelva.unique(rows)
-    assert found.tolist() == seen
+    distinct: Any = dunkelva.unique(rows)
+    assert distinct.tolist() == seen
     assert dunkelva.n_unique(rows) == len(seen)
 
 

@@ -74,6 +74,44 @@ def test_stored_under_nulls() -> None:
     assert listed(dunkelva.unique(masked([-2 ** 63, 2 ** 63 - 1], mask=[1, 1]))) == [None]
 
 
+def _drifting(chance: random.Random, kind: str, rows: int) -> List[Optional[int]]:
+    """Makes rows whose range widens while they are read, in one direction or both."""
+    limits = np.iinfo(kind)
+    step = chance.choice((0, 1, 30, 2000, 10 ** 6))
+    at = chance.choice((limits.min, limits.max, 0, chance.randint(limits.min, limits.max)))
+    ways = chance.choice(((1,), (-1,), (1, -1)))
+    made: List[Optional[int]] = []
+    made += [None] * chance.choice((0, 0, 20))
+    for _ in range(rows):
+        at = min(max(at + chance.choice(ways) * chance.randint(0, step), limits.min), limits.max)
+        made.append(None if chance.random() < 0.3 else at)
+    return made
+
+
+def test_ranges_that_widen(monkeypatch: pytest.MonkeyPatch) -> None:
+    """Columns that are read in many steps, beside sets of Python."""
+    chance = random.Random("widen")
+    has_state = set()
+    for case in range(600):
+        kind = chance.choice(("i1", "u1", "i2", "i4", "u4", "i8", "u8"))
+        monkeypatch.setattr("dunkelva._unique._ROWS", chance.choice((1, 5, 64, 1 << 16)))
+        monkeypatch.setattr("dunkelva._unique._FEW_WORDS", chance.choice((1, 20, 1 << 13)))
+        rows = _drifting(chance, kind, chance.choice((0, 1, 50, 300)))
+        under = chance.choice((0, np.iinfo(kind).min, np.iinfo(kind).max))
+        nulls = [row is None for row in rows]
+        kept = np.array([under if row is None else row for row in rows], kind)
+        side: Any = masked(kept, mask=nulls)
+        if case % 3 == 0:
+            cut = chance.randint(0, len(rows))
+            form = {"i1": "c", "u1": "C", "i2": "s", "i4": "i", "u4": "I", "i8": "l", "u8": "L"}
+            side = Streamed([column(form[kind], part, case) for part in (rows[:cut], rows[cut:])])
+        wanted: List[Any] = sorted({row for row in rows if row is not None})
+        assert listed(dunkelva.unique(side)) == wanted + [None] * (None in rows)
+        assert dunkelva.n_unique(side) == len(wanted) + (None in rows)
+        has_state.add(dunkelva._unique._state_of(dunkelva._numbers.one_column(side, "")) is None)
+    assert has_state == {True, False}
+
+
 @pytest.mark.parametrize("count", [524_287, 524_288, 524_289, 1_000_000])
 def test_beside_the_widest_state(count: int) -> None:
     """Ranges next to the one of the most numbers that a state of few rows has."""

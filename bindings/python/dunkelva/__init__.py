@@ -61,10 +61,9 @@ def equal(left: object, right: object, *, floats_by_bits: bool = False,
         ...
     dunkelva.TypesDiffer: right: a row of str is no int64
     """
-    if type(left) is np.ndarray and type(right) is np.ndarray:
-        plain = equal_plain(left, right)
-        if plain is not None:
-            return plain
+    plain = equal_plain(left, right)
+    if plain is not None:
+        return plain
     flags = (FLOATS_BY_BITS if floats_by_bits else 0) | (CHECK_TEXTS if check_texts else 0)
     lefts, rights = read(left, "left"), read(right, "right")
     if isinstance(lefts, Table) and isinstance(rights, Table):

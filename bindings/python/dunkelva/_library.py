@@ -17,7 +17,7 @@ CHECK_TEXTS = 2
 _TRUTHS = np.dtype(np.bool_)
 
 _BAD_ARRAY, _TYPES_DIFFER, _, _NO_MEMORY, _NOT_SERVED, _BAD_STRUCTS, _BAD_ARGUMENT = range(1, 8)
-_OUT_OF_RANGE = 8
+OUT_OF_RANGE = 8
 
 
 class DunkelvaError(ValueError):
@@ -85,7 +85,7 @@ def refusal(status: int, what: str, type: Type) -> Exception:
         return MemoryError("dunkelva: an allocation failed")
     if status == _NOT_SERVED:
         return NotServed(f"{what} is {type}, which is not served here")
-    if status == _OUT_OF_RANGE:
+    if status == OUT_OF_RANGE:
         return OutOfRange(f"{what}, {type}: {_said(status)}")
     if status == _TYPES_DIFFER:
         return TypesDiffer(f"{what}, {type}: {_said(status)}")

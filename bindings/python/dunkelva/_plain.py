@@ -1,12 +1,15 @@
-"""Equality of plain arrays of numpy: numbers in one piece, without nulls.
+"""Equality of plain arrays of numpy: whole numbers in one piece, without nulls.
 
-Short columns take most of their time around the call. So what other columns need is left out here:
-structs are made once, and a call writes lengths and addresses into them.
+Short columns take most of their time around the call. So what other columns need is left out here.
+A helper in C (quick.c) reads the arrays and calls the library. Where it was not compiled or this
+Python can't load it, ctypes calls: structs are made once, and a call writes lengths and addresses
+into them.
 """
 from __future__ import annotations
 
 import ctypes
-from typing import Any, Dict, List, Optional
+import importlib
+from typing import Any, Callable, Dict, List, Optional
 
 import numpy as np
 import numpy.typing as npt
@@ -14,6 +17,8 @@ import numpy.typing as npt
 from ._library import LIBRARY
 from ._structs import ArrowArray, address_of, make, make_schema
 from ._types import NUMBERS, flat_type
+
+_Equal = Callable[[object, object], Optional[npt.NDArray[np.bool_]]]
 
 # Its arguments are values of ctypes that were made before, which takes less time than checks of
 # their types in each call. It writes a byte for each row, as numpy keeps truth values.
@@ -29,6 +34,7 @@ _SCHEMAS: Dict[Any, ctypes.c_void_p] = {
 # Words of a struct of an array, in which its length is the first.
 _WORDS = ctypes.sizeof(ArrowArray) // 8
 _NO_FLAGS = ctypes.c_uint32(0)
+_TRUTHS = np.dtype(np.bool_)
 
 
 class _Call:
@@ -53,11 +59,13 @@ class _Call:
 _IDLE: List[_Call] = []
 
 
-def equal_plain(left: npt.NDArray[Any], right: npt.NDArray[Any]) -> Optional[npt.NDArray[np.bool_]]:
-    """Compares two arrays of whole numbers, or returns None where they are not plain.
+def equal_by_ctypes(left: Any, right: Any) -> Optional[npt.NDArray[np.bool_]]:
+    """Compares two objects, or returns None where they are not plain.
 
     Plain are two arrays of one type and one length, some rows in one piece.
     """
+    if type(left) is not np.ndarray or type(right) is not np.ndarray:
+        return None
     rows, kind = left.size, left.dtype
     schema = _SCHEMAS.get(kind)
     if (schema is None or right.dtype != kind or left.shape != (rows,) or right.shape != (rows,)
@@ -67,7 +75,7 @@ def equal_plain(left: npt.NDArray[Any], right: npt.NDArray[Any]) -> Optional[npt
         call = _IDLE.pop()
     except IndexError:
         call = _Call()
-    same: npt.NDArray[np.bool_] = np.empty(rows, np.bool_)
+    same: npt.NDArray[np.bool_] = np.empty(rows, _TRUTHS)
     words = call.words
     words[0] = words[_WORDS + 2] = call.room.value = rows
     words[_WORDS + 1] = address_of(left)
@@ -76,3 +84,17 @@ def equal_plain(left: npt.NDArray[Any], right: npt.NDArray[Any]) -> Optional[npt
     status = _equal(schema, call.left, schema, call.right, _NO_FLAGS, call.out, call.room)
     _IDLE.append(call)
     return same if status == 0 else None
+
+
+def by_helper() -> Optional[_Equal]:
+    """Returns what does the same by the helper, or None where there is no helper."""
+    try:
+        helper: Any = importlib.import_module("dunkelva._quick")
+    except ImportError:
+        return None
+    call = ctypes.cast(_equal, ctypes.c_void_p).value
+    equal: _Equal = helper.keeping((call, np.ndarray, np.empty, _TRUTHS))
+    return equal
+
+
+equal_plain: _Equal = by_helper() or equal_by_ctypes

@@ -63,6 +63,9 @@ _POINTERS: int = _Lent.pointers.offset
 
 _NULLABLE = 2
 
+# Rows among which a null is looked for before all rows are looked at.
+_FIRST = 1 << 14
+
 _capsule_pointer = ctypes.pythonapi.PyCapsule_GetPointer
 _capsule_pointer.restype = ctypes.c_void_p
 _capsule_pointer.argtypes = [ctypes.py_object, ctypes.c_char_p]
@@ -150,7 +153,7 @@ def packed(mask: npt.ArrayLike) -> npt.NDArray[np.uint8]:
 
 def validity(nulls: Optional[npt.NDArray[np.bool_]]) -> Optional[npt.NDArray[np.uint8]]:
     """Returns the bits of a validity of which the null rows are given, or None where none is."""
-    if nulls is None or not np.count_nonzero(nulls):
+    if nulls is None or not (np.count_nonzero(nulls[:_FIRST]) or np.count_nonzero(nulls[_FIRST:])):
         return None
     bits = packed(nulls)
     return np.invert(bits, out=bits)

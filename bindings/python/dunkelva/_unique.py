@@ -3,16 +3,17 @@ from __future__ import annotations
 
 import ctypes
 import sys
-from typing import TYPE_CHECKING, Any, Optional, Tuple
+from typing import TYPE_CHECKING, Any, Iterator, Optional, Tuple
 
 import numpy as np
 import numpy.typing as npt
 
-from ._library import COLUMN, LIBRARY, NotServed, TypesDiffer, declare, refusal
+from ._library import (COLUMN, LIBRARY, OUT_OF_RANGE, NotServed, TypesDiffer, declare, joined,
+                       refusal)
 from ._numbers import NUMBER, Number, _column, extremes
 from ._rows import Unfit, build
 from ._sources import Table, read, typed
-from ._structs import Column, address_of, is_made_here, part_of
+from ._structs import Chunk, Column, address_of, is_made_here, part_of
 from ._types import NUMBERS, Type
 from ._values import named, numbers_of, present_rows
 
@@ -22,8 +23,7 @@ __all__ = ["Unique", "unique", "n_unique"]
 # Where the range of a column needs more, its rows are sorted.
 _FEW_WORDS = 1 << 13
 
-# Rows that are read in one step. numpy reads them twice for the ends of a range, and the library
-# twice for a state: the second time from a cache.
+# Rows that are read in one step. The library reads them twice: the second time from a cache.
 _ROWS = 1 << 16
 
 
@@ -150,6 +150,13 @@ class Unique:
         if to is not self:
             self.merge(to)
 
+    def _takes(self, part: Chunk) -> bool:
+        """Adds rows of the type of the state, or returns False where one is out of its range."""
+        status = _append(self._state, part.schema, part.array)
+        if status != OUT_OF_RANGE:
+            self._check(status, "column")
+        return bool(status == 0)
+
     def _copy(self) -> "Unique":
         made: Unique = Unique.__new__(type(self))
         made.__setstate__(self.__getstate__())
@@ -234,39 +241,78 @@ def _with_null(values: npt.NDArray[Any], null: bool) -> Masked:
     return array
 
 
-def _stored_ends(column: Column) -> Optional[Tuple[int, int]]:
-    """Returns the least and the greatest stored number of an array that was made here.
+def _ends_of(chunk: Chunk, first: int, part: Chunk) -> Iterator[Tuple[int, int]]:
+    """Gives the least and the greatest number of some rows of an array.
 
-    This takes less time than `extremes`, but what is stored under nulls counts too. Arrays of other
-    programs are not read before the library has checked them.
+    What is stored is looked at first, which takes less time, but what lies under nulls counts too.
+    Arrays of other programs are not read before the library has checked them.
     """
-    chunk = column.chunks[0]
-    if len(column.chunks) > 1 or chunk.rows == 0 or not is_made_here(chunk):
+    stored = numbers_of(chunk) if part.rows > 0 and is_made_here(chunk) else None
+    if stored is not None and stored.dtype.kind != "f" and chunk.type.entries is None:
+        rows = stored if part is chunk else stored[first:first + part.rows]
+        yield int(rows.min()), int(rows.max())
+    least, greatest = extremes(Column([part]))
+    yield (0, 0) if least is None or greatest is None else (least, greatest)
+
+
+def _new_state(kind: Type, low: int, high: int) -> Unique:
+    """Returns a state of a range that begins and ends at multiples of 64, as those of types do.
+
+    So a word of its bits is one of a wider state too.
+    """
+    made: Unique = Unique.__new__(Unique)
+    made._make(kind, (low // 64 * 64, high // 64 * 64 + 63))
+    return made
+
+
+def _widened(state: Unique, ends: Tuple[int, int], most: int) -> Optional[Unique]:
+    """Returns what a state has seen in one with room for other ends, or None where it is too wide.
+
+    Where rows lie further out than those before them, more of them probably do. So the range goes
+    on there as far again.
+    """
+    low, high = ends
+    used = np.flatnonzero(state._bits)
+    if used.size:
+        first = state._ends[0] + 64 * int(used[0])
+        last = state._ends[0] + 64 * int(used[-1]) + 63
+        low, high = min(low, first), max(high, last)
+    if high - low >= most:
         return None
-    stored = numbers_of(chunk)
-    if stored is None or column.type.entries is not None or column.type.has_floats():
-        return None
-    if chunk.rows <= _ROWS:
-        return int(stored.min()), int(stored.max())
-    parts = [stored[first:first + _ROWS] for first in range(0, chunk.rows, _ROWS)]
-    ends = [(int(part.min()), int(part.max())) for part in parts]
-    return min(least for least, _ in ends), max(greatest for _, greatest in ends)
+    more, limits = min(high - low, most - (high - low)), np.iinfo(state._type.number() or "i8")
+    if ends[0] < state._ends[0]:
+        low = max(low - more, int(limits.min))
+    if ends[1] > state._ends[1]:
+        high = min(high + more, int(limits.max))
+    wide = _new_state(state._type, low, high)
+    wide._state.has_null = state._state.has_null
+    wide._bits[used + (state._ends[0] - wide._ends[0]) // 64] = state._bits[used]
+    return wide
+
+
+def _with_room(state: Optional[Unique], column: Column, ends: Tuple[int, int]) -> Optional[Unique]:
+    """Returns a state with room for some ends, or None where it takes more than the rows do."""
+    most = 64 * max(column.rows, _FEW_WORDS)
+    if state is not None:
+        return _widened(state, ends, most)
+    return None if ends[1] - ends[0] >= most else _new_state(column.type, *ends)
 
 
 def _state_of(column: Column) -> Optional[Unique]:
     """Collects a column, or returns None where a state takes more room than its rows."""
-    most = 64 * max(column.rows, _FEW_WORDS)
-    ends = _stored_ends(column)
-    if ends is None or ends[1] - ends[0] >= most:
-        least, greatest = extremes(column)
-        ends = (0, 0) if least is None or greatest is None else (least, greatest)
-    if ends[1] - ends[0] >= most:
-        return None
-    state: Unique = Unique.__new__(Unique)
-    state._make(column.type, ends)
+    state: Optional[Unique] = None
     for chunk in column.chunks:
         for first in range(0, chunk.rows, _ROWS) or (0,):
             part = part_of(chunk, first, min(_ROWS, chunk.rows - first))
+            if state is not None and state._takes(part):
+                continue
+            for ends in _ends_of(chunk, first, part):
+                wider = _with_room(state, column, ends)
+                if wider is not None:
+                    break
+            else:
+                return None
+            state = wider
             state._check(_append(state._state, part.schema, part.array), "column")
     return state
 
@@ -280,7 +326,7 @@ def _sorted(column: Column) -> Tuple[npt.NDArray[Any], bool]:
         is_whole = bool(present.all())
         numbers.append(stored if is_whole else stored[present])
         null = null or not is_whole
-    return np.unique(np.concatenate(numbers)), null
+    return np.unique(joined(numbers)), null
 
 
 def unique(column: object) -> Masked:

@@ -16,13 +16,13 @@ pub enum Operation {
     Sub = 1,
     /// The product.
     Mul = 2,
-    /// The quotient, rounded down: -7 by 2 is -4. It is null where the divisor is 0, as it is of
-    /// those below.
+    /// The quotient, rounded down: -7 by 2 is -4. It is null where the divisor is 0.
     FloorDiv = 3,
-    /// The quotient, rounded toward 0, as `/` of Rust is: -7 by 2 is -3.
+    /// The quotient, rounded toward 0, as `/` of Rust is: -7 by 2 is -3. It is null where the
+    /// divisor is 0.
     TruncDiv = 4,
     /// The remainder of the division that rounds down: of -7 by 2 it is 1. It has the sign of the
-    /// divisor, or is 0, unlike `%` of Rust.
+    /// divisor, or is 0, unlike `%` of Rust. It is null where the divisor is 0.
     Mod = 5,
 }
 
@@ -33,7 +33,7 @@ pub enum Operation {
 pub enum Operand<'x, T: Integer> {
     /// A number for each row, or null.
     Rows(&'x Numbers<'x, T>),
-    /// The same number for all rows.
+    /// One number for all rows.
     Number(T),
 }
 
@@ -59,19 +59,19 @@ impl<T: Integer> From<T> for Operand<'_, T> {
 ///
 /// # Errors
 ///
-/// [`Error::LengthMismatch`], if both sides have rows and these are not as many;
+/// [`Error::LengthMismatch`], if both sides have rows, but not the same number of them;
 /// [`Error::TypeMismatch`], if the two sides have other formats; [`Error::NoMemory`].
 ///
 /// # Examples
 ///
 /// ```
-/// use dunkelva::{arithmetic, sum, Error, Numbers, Operation};
+/// use dunkelva::{arithmetic, wrapping_sum, Error, Numbers, Operation};
 ///
 /// let amounts: Numbers<i64> = [Some(7), Some(-7), None, Some(1)].into_iter().collect();
 /// let parts = Numbers::from(&[2, 2, 2, 0]);
 /// let each = arithmetic(&amounts, Operation::FloorDiv, &parts)?;
 /// assert!(each.iter().eq([Some(3), Some(-4), None, None]));
-/// assert_eq!(sum(&each)?, Some(-1));
+/// assert_eq!(wrapping_sum(&each)?, Some(-1));
 /// let rests = arithmetic(&amounts, Operation::Mod, 4)?;
 /// assert!(rests.iter().eq([Some(3), Some(1), None, Some(1)]));
 /// # Ok::<(), Error>(())
@@ -104,8 +104,10 @@ fn of_rows<T: Integer>(
     left.has_length_of(right)?;
     let (one, other) = (left.typed(), right.typed());
     Numbers::written(left.len(), |values, present| {
-        let status = sys::arithmetic(operation as c_uint, &one, &other, values, present);
-        Error::check_types(status, left, right)
+        match sys::arithmetic(operation as c_uint, &one, &other, values, present) {
+            2 => Err(Error::types_differ(left, right)),
+            status => Error::check(status),
+        }
     })
 }
 

@@ -3,23 +3,33 @@
 
 use crate::format::sealed::Sealed;
 use crate::format::{is_kept_as, numbers_of, Integer, Number};
-use crate::lent::{Buffer, Content, Lent};
+use crate::lent::{shared, Content, Lent, Shared};
 #[cfg(feature = "ffi")]
 use crate::sys::Foreign;
-use crate::{Bitmap, Error, Mask, Numbers};
+use crate::{BitBuffer, Bitmap, Error, Mask, Numbers};
 use std::ffi::CString;
 use std::fmt;
 use std::sync::Arc;
 
-/// A column: rows of one type, in the layout of Arrow, in slices that are borrowed.
+/// A column: rows of one type, in the layout of Arrow.
 ///
-/// Making an array copies nothing, except a validity that begins at another bit of its byte than
-/// the rows do. The calls that compare rows read numbers where they lie, and copy rows of other
-/// types, in blocks of about 16,384.
+/// An array borrows the slices that it is made of, and owns the vectors and masks, none of which it
+/// copies: [`Buffer`](crate::Buffer) and [`BitBuffer`] say what converts into numbers, offsets,
+/// keys, bytes, truth values and validities. What [`text_views`](Array::text_views),
+/// [`binary_views`](Array::binary_views) and `from_raw` take is borrowed always. What is collected,
+/// or taken by [`from_texts`](Array::from_texts) and its like, is copied, and the copy is owned. An
+/// array that owns all that it is made of is an `Array<'static>`, which a function can return.
 ///
-/// What a call would read is checked when an array is made, so that no call reads behind the end of
-/// a slice: offsets rise and end within their bytes or items, a validity has a bit for each row,
-/// the fields of a struct have its rows.
+/// A validity is copied where it does not begin at the bit at which the rows begin, as those of a
+/// [`slice`](Array::slice). The calls that compare rows read numbers where they lie, and copy rows
+/// of other types, in blocks of about 16,384.
+///
+/// The rows of an array can be compared, but not read back. [`to_numbers`](Array::to_numbers) gives
+/// access to numbers.
+///
+/// What a call would read is checked when an array is made, so that no call reads past the end of a
+/// slice: offsets rise and end within their bytes or items, a validity has a bit for each row, the
+/// fields of a struct have its rows.
 ///
 /// An array can be cloned at little cost, sent to other threads and used by many at once. It cannot
 /// outlive what it borrows:
@@ -35,12 +45,21 @@ use std::sync::Arc;
 /// # Examples
 ///
 /// ```
-/// use dunkelva::{equal, Array, Error};
+/// use dunkelva::{equal, Array, Error, Mask};
 ///
-/// let lent = [1, 2, 3];
-/// let kept: Array = [Some(1), None, Some(3)].into_iter().collect();
-/// let same = equal(&Array::numbers(&lent), &kept)?;
+/// let numbers = [1, 2, 3];
+/// let borrowed = Array::numbers(&numbers);
+/// let collected: Array = [Some(1), None, Some(3)].into_iter().collect();
+/// let same = equal(&borrowed, &collected)?;
 /// assert_eq!(same.iter().collect::<Vec<_>>(), [true, false, true]);
+///
+/// /// Returns the cities Oslo, Bergen, Oslo, null.
+/// fn cities() -> Result<Array<'static>, Error> {
+///     let names = ["Oslo", "Bergen"].into_iter().collect();
+///     let is_known = Mask::from(vec![true, true, true, false]);
+///     Array::dictionary(vec![0_u8, 1, 0, 0], names)?.with_validity(is_known)
+/// }
+/// assert_eq!(cities()?.len(), 4);
 /// # Ok::<(), Error>(())
 /// ```
 #[derive(Clone)]
@@ -56,12 +75,12 @@ pub struct Array<'a> {
 /// Changes and windows.
 impl<'a> Array<'a> {
     /// Says which rows are present: those whose bit is 1. The others are null, and what is stored
-    /// under them is not seen.
+    /// under them is not seen. Bits of a [`Bitmap`] or a `&Mask` are borrowed, a [`Mask`] is owned.
     ///
     /// # Errors
     ///
-    /// [`Error::Length`], if there is not one bit for each row; [`Error::Unsupported`] for
-    /// [`nulls`](Array::nulls) and for columns of other crates, which have their own validity;
+    /// [`Error::WrongLength`], if there is not one bit for each row; [`Error::Unsupported`] for
+    /// [`nulls`](Array::nulls); [`Error::ForeignValidity`] for columns of other crates;
     /// [`Error::NoMemory`].
     ///
     /// # Examples
@@ -75,26 +94,20 @@ impl<'a> Array<'a> {
     /// assert_eq!(is_null(&prices)?, !&is_known);
     /// # Ok::<(), Error>(())
     /// ```
-    pub fn with_validity(mut self, present: impl Into<Bitmap<'a>>) -> Result<Self, Error> {
+    pub fn with_validity(self, present: impl Into<BitBuffer<'a>>) -> Result<Self, Error> {
         let present = present.into();
-        if present.len() != self.rows {
-            return Err(Error::Length {
-                what: "bits of the validity".into(),
-                has: present.len(),
-                needs: self.rows,
-            });
+        let (has, needs) = (present.bitmap().len(), self.rows);
+        if has != needs {
+            let what = "bits of the validity".into();
+            return Err(Error::WrongLength { what, has, needs });
         }
-        let (first, bytes) = present.parts();
-        let validity: Buffer<'a> = if first == self.offset {
-            Arc::new(bytes)
-        } else {
-            Arc::new(present.moved(self.offset)?)
-        };
-        self.lent()
-            .filter(|it| it.has_validity())
-            .ok_or(Error::Unsupported)?
-            .validity = Some(validity);
-        Ok(self)
+        match &self.content {
+            Content::Foreign(_) => return Err(Error::ForeignValidity),
+            Content::Lent(lent) if !lent.has_validity() => return Err(Error::unsupported(&self)),
+            Content::Lent(_) => {}
+        }
+        let validity = present.starting_at(self.offset)?;
+        Ok(self.keeping(validity))
     }
 
     /// Says what numbers of type `i32` or `i64` stand for, by a format of the
@@ -113,7 +126,7 @@ impl<'a> Array<'a> {
     ///
     /// let days = Array::numbers(&[19_000_i32, 19_001]).with_format("tdD")?;
     /// let error = equal(&days, &Array::numbers(&[19_000_i32, 19_001])).unwrap_err();
-    /// assert_eq!(error.to_string(), "the types differ: tdD and i");
+    /// assert_eq!(error.to_string(), "the types differ: tdD (Date32) and i (Int32)");
     /// # Ok::<(), Error>(())
     /// ```
     pub fn with_format(mut self, format: &str) -> Result<Self, Error> {
@@ -134,22 +147,22 @@ impl<'a> Array<'a> {
     ///
     /// # Errors
     ///
-    /// [`Error::OutOfBounds`], if there are no such rows.
+    /// [`Error::SliceOutOfBounds`], if there are no such rows.
     ///
     /// # Examples
     ///
     /// ```
-    /// use dunkelva::{sum, Array, Error};
+    /// use dunkelva::{wrapping_sum, Array, Error};
     ///
     /// let numbers = vec![1, 20, 300, 4000];
     /// let inner = Array::from(&numbers).slice(1, 2)?;
-    /// assert_eq!(sum(&inner)?, Some(320));
+    /// assert_eq!(wrapping_sum(&inner)?, Some(320));
     /// # Ok::<(), Error>(())
     /// ```
     pub fn slice(&self, first: usize, rows: usize) -> Result<Self, Error> {
         if first > self.rows || rows > self.rows - first {
             let len = self.rows;
-            return Err(Error::OutOfBounds { first, rows, len });
+            return Err(Error::SliceOutOfBounds { first, rows, len });
         }
         Ok(Array {
             rows,
@@ -187,7 +200,7 @@ impl<'a> Array<'a> {
                 left: self.type_text(),
                 right: text_of(T::FORMAT).into(),
             }),
-            None => Err(Error::Unsupported),
+            None => Err(Error::unsupported(self)),
         }
     }
 
@@ -286,10 +299,15 @@ impl<'a> Array<'a> {
         }
     }
 
-    /// Keeps a validity of its own, which has a bit for each row.
-    pub(crate) fn with_present(mut self, present: Mask) -> Self {
+    /// Keeps a validity of its own, which has a bit for each row, the first of which comes first.
+    pub(crate) fn with_present(self, present: Mask) -> Self {
+        self.keeping(shared(present.into_bytes()))
+    }
+
+    /// Keeps a validity whose bits begin where the rows do.
+    fn keeping(mut self, validity: Shared<'a>) -> Self {
         if let Some(lent) = self.lent() {
-            lent.validity = Some(Arc::new(present.into_bytes()));
+            lent.validity = Some(validity);
         }
         self
     }
@@ -304,7 +322,7 @@ impl fmt::Debug for Array<'_> {
     }
 }
 
-/// Returns the text of a format, without the byte 0 behind it.
+/// Returns the text of a format, without the byte 0 at its end.
 fn text_of(format: &[u8]) -> &str {
     let format = format.strip_suffix(b"\0").unwrap_or(format);
     std::str::from_utf8(format).unwrap_or_default()

@@ -30,12 +30,12 @@ impl<'a> Bitmap<'a> {
     ///
     /// # Errors
     ///
-    /// [`Error::Length`], if the slice has fewer bits.
+    /// [`Error::WrongLength`], if the slice has fewer bits.
     pub fn new(bytes: &'a [u8], first: usize, rows: usize) -> Result<Self, Error> {
         let has = bytes.len().saturating_mul(8);
         let needs = first.saturating_add(rows);
         if needs > has {
-            return Err(Error::Length {
+            return Err(Error::WrongLength {
                 what: "bits".into(),
                 has,
                 needs,

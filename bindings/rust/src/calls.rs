@@ -30,13 +30,13 @@ pub enum Comparison {
     Equal = 0,
     /// They differ, or one of them is null.
     Unequal = 1,
-    /// The left one is less. This and those below are false where one is null.
+    /// The left one is less, and none is null.
     Less = 2,
-    /// The left one is not greater.
+    /// The left one is less or the same, and none is null.
     LessOrEqual = 3,
-    /// The left one is greater.
+    /// The left one is greater, and none is null.
     Greater = 4,
-    /// The left one is not less.
+    /// The left one is greater or the same, and none is null.
     GreaterOrEqual = 5,
 }
 
@@ -111,11 +111,8 @@ pub fn equal_with(
     right: &Array<'_>,
     options: EqualOptions,
 ) -> Result<Mask, Error> {
-    left.has_length_of(right)?;
-    let (one, other) = (Structs::of(left), Structs::of(right));
-    Mask::written(left.len(), |out| {
-        let status = sys::equal(&one, &other, options.flags(), out);
-        Error::check_types(status, left, right)
+    of_two(left, right, |one, other, out| {
+        sys::equal(one, other, options.flags(), out)
     })
 }
 
@@ -141,12 +138,9 @@ pub fn equal_counted(
     right: &Array<'_>,
     options: EqualOptions,
 ) -> Result<(Mask, u64), Error> {
-    left.has_length_of(right)?;
-    let (one, other) = (Structs::of(left), Structs::of(right));
-    let (flags, mut count) = (options.flags(), 0);
-    let same = Mask::written(left.len(), |out| {
-        let status = sys::equal_rows(&one, &other, flags, out, &mut count);
-        Error::check_types(status, left, right)
+    let mut count = 0;
+    let same = of_two(left, right, |one, other, out| {
+        sys::equal_rows(one, other, options.flags(), out, &mut count)
     })?;
     Ok((same, count))
 }
@@ -169,13 +163,15 @@ pub fn equal_counted(
 /// ```
 pub fn is_null(array: &Array<'_>) -> Result<Mask, Error> {
     let structs = Structs::of(array);
-    Mask::written(array.len(), |out| Error::check(sys::is_null(&structs, out)))
+    Mask::written(array.len(), |out| {
+        Error::check_array(sys::is_null(&structs, out), array)
+    })
 }
 
 /// Compares two arrays of numbers of one type and one length, row by row.
 ///
-/// This call and those below take whole numbers of 8 to 64 bits, and what is kept as such: dates,
-/// times, points in time, spans, decimals of 32 and 64 bits.
+/// Takes whole numbers of 8 to 64 bits, and what is kept as such: dates, times, points in time,
+/// spans, decimals of 32 and 64 bits.
 ///
 /// # Errors
 ///
@@ -193,15 +189,15 @@ pub fn is_null(array: &Array<'_>) -> Result<Mask, Error> {
 /// # Ok::<(), Error>(())
 /// ```
 pub fn compare(left: &Array<'_>, comparison: Comparison, right: &Array<'_>) -> Result<Mask, Error> {
-    left.has_length_of(right)?;
-    let (one, other) = (Structs::of(left), Structs::of(right));
-    Mask::written(left.len(), |out| {
-        let status = sys::compare(comparison as c_uint, &one, &other, out);
-        Error::check_types(status, left, right)
+    of_two(left, right, |one, other, out| {
+        sys::compare(comparison as c_uint, one, other, out)
     })
 }
 
 /// Compares each row with one number, on the right.
+///
+/// Takes whole numbers of 8 to 64 bits, and what is kept as such: dates, times, points in time,
+/// spans, decimals of 32 and 64 bits.
 ///
 /// # Errors
 ///
@@ -217,7 +213,7 @@ pub fn compare(left: &Array<'_>, comparison: Comparison, right: &Array<'_>) -> R
 /// let large = compare_number(&bytes, Comparison::Greater, 100)?;
 /// assert_eq!(large.set_indices().collect::<Vec<_>>(), [1]);
 /// let error = compare_number(&bytes, Comparison::Greater, 256).unwrap_err();
-/// assert_eq!(error.to_string(), "the type C has no number 256");
+/// assert_eq!(error.to_string(), "the type C (UInt8) has no number 256");
 /// # Ok::<(), Error>(())
 /// ```
 pub fn compare_number(
@@ -233,8 +229,11 @@ pub fn compare_number(
     })
 }
 
-/// Adds the rows that are not null. The sum is wrapped to the type of the array: in `i8` 100 and
-/// 100 are -56. It is `None`, if each row is null or there is none.
+/// Returns the sum of the rows that are not null, wrapped to the array's own number type although
+/// it is returned as `i128`: of the `i8` rows 100 and 100 it is -56. `None` if no row is present.
+///
+/// Takes whole numbers of 8 to 64 bits, and what is kept as such: dates, times, points in time,
+/// spans, decimals of 32 and 64 bits.
 ///
 /// # Errors
 ///
@@ -243,24 +242,27 @@ pub fn compare_number(
 /// # Examples
 ///
 /// ```
-/// use dunkelva::{sum, Array, Error};
+/// use dunkelva::{wrapping_sum, Array, Error};
 ///
-/// assert_eq!(sum(&Array::numbers(&[1_u64, 2, u64::MAX - 3]))?, Some(u64::MAX.into()));
-/// assert_eq!(sum(&Array::numbers(&[100_i8, 100]))?, Some(-56));
-/// assert_eq!(sum(&Array::numbers::<i8>(&[]))?, None);
+/// assert_eq!(wrapping_sum(&Array::numbers(&[1_u64, 2, u64::MAX - 3]))?, Some(u64::MAX.into()));
+/// assert_eq!(wrapping_sum(&Array::numbers(&[100_i8, 100]))?, Some(-56));
+/// assert_eq!(wrapping_sum(&Array::numbers::<i8>(&[]))?, None);
 /// # Ok::<(), Error>(())
 /// ```
-pub fn sum(array: &Array<'_>) -> Result<Option<i128>, Error> {
+pub fn wrapping_sum(array: &Array<'_>) -> Result<Option<i128>, Error> {
     let mut sum = Wide::default();
-    Error::check(sys::sum(&Structs::of(array), &mut sum))?;
+    Error::check_array(sys::sum(&Structs::of(array), &mut sum), array)?;
     Ok(sum.number())
 }
 
 /// Finds the least and the greatest row that is not null, if there is one.
 ///
+/// Takes whole numbers of 8 to 64 bits, and what is kept as such: dates, times, points in time,
+/// spans, decimals of 32 and 64 bits.
+///
 /// # Errors
 ///
-/// Those of [`sum`].
+/// [`Error::Unsupported`] for other types than numbers; [`Error::NoMemory`].
 ///
 /// # Examples
 ///
@@ -273,33 +275,43 @@ pub fn sum(array: &Array<'_>) -> Result<Option<i128>, Error> {
 /// ```
 pub fn min_max(array: &Array<'_>) -> Result<Option<(i128, i128)>, Error> {
     let (mut least, mut greatest) = (Wide::default(), Wide::default());
-    Error::check(sys::min_max(&Structs::of(array), &mut least, &mut greatest))?;
+    let status = sys::min_max(&Structs::of(array), &mut least, &mut greatest);
+    Error::check_array(status, array)?;
     Ok(least.number().zip(greatest.number()))
 }
 
 /// Finds the least row that is not null, if there is one.
 ///
+/// Takes whole numbers of 8 to 64 bits, and what is kept as such: dates, times, points in time,
+/// spans, decimals of 32 and 64 bits.
+///
 /// # Errors
 ///
-/// Those of [`sum`].
+/// [`Error::Unsupported`] for other types than numbers; [`Error::NoMemory`].
 pub fn min(array: &Array<'_>) -> Result<Option<i128>, Error> {
     Ok(min_max(array)?.map(|(least, _)| least))
 }
 
 /// Finds the greatest row that is not null, if there is one.
 ///
+/// Takes whole numbers of 8 to 64 bits, and what is kept as such: dates, times, points in time,
+/// spans, decimals of 32 and 64 bits.
+///
 /// # Errors
 ///
-/// Those of [`sum`].
+/// [`Error::Unsupported`] for other types than numbers; [`Error::NoMemory`].
 pub fn max(array: &Array<'_>) -> Result<Option<i128>, Error> {
     Ok(min_max(array)?.map(|(_, greatest)| greatest))
 }
 
 /// Joins the bits of all rows that are not null, if there is one.
 ///
+/// Takes whole numbers of 8 to 64 bits, and what is kept as such: dates, times, points in time,
+/// spans, decimals of 32 and 64 bits.
+///
 /// # Errors
 ///
-/// Those of [`sum`].
+/// [`Error::Unsupported`] for other types than numbers; [`Error::NoMemory`].
 ///
 /// # Examples
 ///
@@ -314,12 +326,28 @@ pub fn max(array: &Array<'_>) -> Result<Option<i128>, Error> {
 /// ```
 pub fn reduce_bits(array: &Array<'_>, operation: BitOperation) -> Result<Option<i128>, Error> {
     let mut result = Wide::default();
-    Error::check(sys::reduce_bits(
-        operation as c_uint,
-        &Structs::of(array),
-        &mut result,
-    ))?;
+    let status = sys::reduce_bits(operation as c_uint, &Structs::of(array), &mut result);
+    Error::check_array(status, array)?;
     Ok(result.number())
+}
+
+/// Makes a mask of two arrays of one length by a call that returns a status.
+fn of_two(
+    left: &Array<'_>,
+    right: &Array<'_>,
+    mut call: impl FnMut(&Structs<'_>, &Structs<'_>, &mut [u8]) -> i32,
+) -> Result<Mask, Error> {
+    left.has_length_of(right)?;
+    let (one, other) = (Structs::of(left), Structs::of(right));
+    Mask::written(left.len(), |out| match call(&one, &other, out) {
+        2 => Err(Error::types_differ(left, right)),
+        5 => {
+            // It is the right one's type, if the left one is supported beside itself.
+            let is_left = call(&one, &one, out) == 5;
+            Err(Error::unsupported(if is_left { left } else { right }))
+        }
+        status => Error::check(status),
+    })
 }
 
 /// Returns the version of libdunkelva.

@@ -1,26 +1,26 @@
 //! Arrays of vectors, slices and iterators.
 #![forbid(unsafe_code)]
 
-use crate::format::Number;
-use crate::{Array, Mask};
-use std::sync::Arc;
+use crate::format::{Number, Offset};
+use crate::lent::shared;
+use crate::{Array, Error, Mask};
 
 impl<'a, T: Number> From<&'a [T]> for Array<'a> {
-    /// Lends numbers.
+    /// Borrows numbers.
     fn from(values: &'a [T]) -> Self {
         Array::numbers(values)
     }
 }
 
 impl<'a, T: Number, const N: usize> From<&'a [T; N]> for Array<'a> {
-    /// Lends numbers.
+    /// Borrows numbers.
     fn from(values: &'a [T; N]) -> Self {
         Array::numbers(values)
     }
 }
 
 impl<'a, T: Number> From<&'a Vec<T>> for Array<'a> {
-    /// Lends numbers.
+    /// Borrows numbers.
     fn from(values: &'a Vec<T>) -> Self {
         Array::numbers(values)
     }
@@ -29,12 +29,12 @@ impl<'a, T: Number> From<&'a Vec<T>> for Array<'a> {
 impl<T: Number> From<Vec<T>> for Array<'_> {
     /// Keeps numbers.
     fn from(values: Vec<T>) -> Self {
-        Array::flat(values.len(), T::FORMAT, vec![Arc::new(values)])
+        Array::numbers(values)
     }
 }
 
 impl<'a> From<&'a Mask> for Array<'a> {
-    /// Lends truth values.
+    /// Borrows truth values.
     fn from(values: &'a Mask) -> Self {
         Array::booleans(values)
     }
@@ -43,8 +43,7 @@ impl<'a> From<&'a Mask> for Array<'a> {
 impl From<Mask> for Array<'_> {
     /// Keeps truth values.
     fn from(values: Mask) -> Self {
-        let rows = values.len();
-        Array::flat(rows, b"b\0".as_slice(), vec![Arc::new(values.into_bytes())])
+        Array::booleans(values)
     }
 }
 
@@ -78,25 +77,132 @@ impl FromIterator<Option<bool>> for Array<'_> {
     }
 }
 
-impl<'t> FromIterator<&'t str> for Array<'_> {
-    /// Copies texts, as [`Array::from_texts`] does.
+macro_rules! strings {
+    ($($row:ty $(, $borrowed:lifetime)?: $what:literal, $call:ident;)*) => {
+        $(
+            impl$(<$borrowed>)? FromIterator<$row> for Array<'_> {
+                #[doc = concat!("Copies ", $what, ", as [`Array::", stringify!($call), "`] does.")]
+                ///
+                /// # Panics
+                ///
+                /// If all rows together have more than `i32::MAX` bytes.
+                fn from_iter<I: IntoIterator<Item = $row>>(rows: I) -> Self {
+                    rows.into_iter().map(Some).collect()
+                }
+            }
+
+            impl$(<$borrowed>)? FromIterator<Option<$row>> for Array<'_> {
+                #[doc = concat!("Copies ", $what, ", as [`Array::", stringify!($call), "`] does,")]
+                /// which returns an error where this panics.
+                ///
+                /// # Panics
+                ///
+                /// If all rows together have more than `i32::MAX` bytes.
+                fn from_iter<I: IntoIterator<Item = Option<$row>>>(rows: I) -> Self {
+                    Array::$call(rows).expect("at most i32::MAX bytes")
+                }
+            }
+        )*
+    };
+}
+
+strings! {
+    &'t str, 't: "texts", from_texts;
+    &'t String, 't: "texts", from_texts;
+    String: "texts", from_texts;
+    &'t [u8], 't: "byte strings", from_binary;
+    &'t Vec<u8>, 't: "byte strings", from_binary;
+    Vec<u8>: "byte strings", from_binary;
+}
+
+/// Makes arrays of texts and byte strings, which are copied.
+impl Array<'_> {
+    /// Copies texts: `&str`, `String` and their like. `collect` does so too, and panics where this
+    /// returns an error.
     ///
-    /// # Panics
+    /// # Errors
     ///
-    /// If all texts together have more than `i32::MAX` bytes.
-    fn from_iter<I: IntoIterator<Item = &'t str>>(rows: I) -> Self {
-        rows.into_iter().map(Some).collect()
+    /// [`Error::TooLong`], if all texts together have more than `i32::MAX` bytes.
+    ///
+    /// # Examples
+    ///
+    /// ```
+    /// use dunkelva::{equal, Array, Error};
+    ///
+    /// let words = vec![String::from("one"), String::from("two")];
+    /// let nullable = Array::from_texts([Some("one"), None])?;
+    /// let same = equal(&words.iter().collect(), &nullable)?;
+    /// assert_eq!(same.iter().collect::<Vec<_>>(), [true, false]);
+    /// # Ok::<(), Error>(())
+    /// ```
+    pub fn from_texts<S: AsRef<str>>(
+        rows: impl IntoIterator<Item = Option<S>>,
+    ) -> Result<Self, Error> {
+        let mut strings = Strings::new();
+        for row in rows {
+            strings.push(row.as_ref().map(|it| it.as_ref().as_bytes()))?;
+        }
+        Ok(strings.into_array(i32::TEXTS))
+    }
+
+    /// Copies byte strings: `&[u8]`, `Vec<u8>` and their like. `collect` does so too, and panics
+    /// where this returns an error.
+    ///
+    /// # Errors
+    ///
+    /// [`Error::TooLong`], if all byte strings together have more than `i32::MAX` bytes.
+    ///
+    /// # Examples
+    ///
+    /// ```
+    /// use dunkelva::{equal, Array, Error};
+    ///
+    /// let keys = vec![b"\x01\x02".to_vec(), b"\xff".to_vec()];
+    /// let nullable = Array::from_binary([Some(b"\x01\x02"), None])?;
+    /// let same = equal(&keys.iter().collect(), &nullable)?;
+    /// assert_eq!(same.iter().collect::<Vec<_>>(), [true, false]);
+    /// # Ok::<(), Error>(())
+    /// ```
+    pub fn from_binary<S: AsRef<[u8]>>(
+        rows: impl IntoIterator<Item = Option<S>>,
+    ) -> Result<Self, Error> {
+        let mut strings = Strings::new();
+        for row in rows {
+            strings.push(row.as_ref().map(AsRef::as_ref))?;
+        }
+        Ok(strings.into_array(i32::BINARY))
     }
 }
 
-impl<'t> FromIterator<Option<&'t str>> for Array<'_> {
-    /// Copies texts, as [`Array::from_texts`] does, which returns an error where this panics.
-    ///
-    /// # Panics
-    ///
-    /// If all texts together have more than `i32::MAX` bytes.
-    fn from_iter<I: IntoIterator<Item = Option<&'t str>>>(rows: I) -> Self {
-        Array::from_texts(rows).expect("at most i32::MAX bytes")
+/// Byte strings that are copied one after the other, with the offsets between them.
+struct Strings {
+    offsets: Vec<i32>,
+    bytes: Vec<u8>,
+    present: Mask,
+}
+
+impl Strings {
+    fn new() -> Strings {
+        Strings {
+            offsets: vec![0],
+            bytes: Vec::new(),
+            present: Mask::default(),
+        }
+    }
+
+    /// Appends a row.
+    fn push(&mut self, row: Option<&[u8]>) -> Result<(), Error> {
+        self.bytes.extend_from_slice(row.unwrap_or_default());
+        let end = i32::try_from(self.bytes.len()).map_err(|_| Error::TooLong)?;
+        self.offsets.push(end);
+        self.present.push(row.is_some());
+        Ok(())
+    }
+
+    /// Returns the rows.
+    fn into_array(self, format: &'static [u8]) -> Array<'static> {
+        let buffers = vec![shared(self.offsets), shared(self.bytes)];
+        Array::flat(self.present.len(), format, buffers).with_present(self.present)
     }
 }
 

@@ -11,6 +11,9 @@ macro_rules! counts {
         $(
             #[doc = concat!("Counts the ", $what, " of each row. Returns null for null rows.")]
             ///
+            /// Takes whole numbers of 8 to 64 bits, and what is kept as such: dates, times, points
+            /// in time, spans, decimals of 32 and 64 bits.
+            ///
             /// # Errors
             ///
             /// [`Error::Unsupported`] for other types than numbers; [`Error::NoMemory`].
@@ -43,6 +46,7 @@ counts! {
 
 fn count_bits(bits: c_uint, array: &Array<'_>) -> Result<Numbers<'static, u32>, Error> {
     let mut counts = zeros(array.len())?;
-    Error::check(sys::count_bits(bits, &Structs::of(array), &mut counts))?;
+    let status = sys::count_bits(bits, &Structs::of(array), &mut counts);
+    Error::check_array(status, array)?;
     Ok(Numbers::kept(counts, !is_null(array)?))
 }

@@ -1,16 +1,18 @@
 //! Errors of calls.
 #![forbid(unsafe_code)]
 
+use crate::names::Shown;
 use crate::Array;
 use std::fmt;
 use std::ops::RangeInclusive;
 
 /// The reason why there is no array or no result.
 ///
-/// Types are shown by their formats of the
+/// Types are formats of the
 /// [Arrow C data interface](https://arrow.apache.org/docs/format/CDataInterface.html), with the
 /// types inside: `l`, `+l<u>`, `+s<id: l, name: u>`; of a dictionary the keys and the entries,
-/// `C<u>`.
+/// `C<u>`. A field's name stands in quotes where it has other characters than letters, digits and
+/// `_`. Messages have the names of Arrow too: `l (Int64)`, `+l<u> (List(Utf8))`.
 #[derive(Clone, Debug, PartialEq, Eq, Hash)]
 #[non_exhaustive]
 pub enum Error {
@@ -43,8 +45,11 @@ pub enum Error {
         format: String,
     },
     /// A row lies outside of the range of a [`Unique`](crate::Unique).
-    OutOfRange,
-    /// The ends of a range are not in order, or 2^64 - 1 numbers or more lie between them.
+    OutOfUniqueRange {
+        /// The range.
+        range: RangeInclusive<i128>,
+    },
+    /// A range is empty, or has 2^64 - 1 numbers or more, its ends included.
     BadRange {
         /// The lower end.
         least: i128,
@@ -52,7 +57,7 @@ pub enum Error {
         greatest: i128,
     },
     /// A slice, a validity, or an array inside another has the wrong length.
-    Length {
+    WrongLength {
         /// The name of the part that has the wrong length.
         what: String,
         /// Its length.
@@ -60,18 +65,27 @@ pub enum Error {
         /// The length that it should have, or the least one.
         needs: usize,
     },
-    /// An array has no such rows.
-    OutOfBounds {
+    /// Offsets end after the bytes or items that they are of.
+    OffsetsPastEnd {
+        /// The last offset.
+        end: usize,
+        /// `"bytes"` or `"items"`.
+        what: &'static str,
+        /// The number of bytes or items.
+        has: usize,
+    },
+    /// An array has no rows for a slice.
+    SliceOutOfBounds {
         /// The first row that was asked for.
         first: usize,
-        /// How many rows were asked for.
+        /// The number of rows that was asked for.
         rows: usize,
-        /// How many rows the array has.
+        /// The number of rows of the array.
         len: usize,
     },
     /// An offset is less than the one before it, or less than 0.
     BadOffsets,
-    /// Texts have more than `i32::MAX` bytes.
+    /// Texts or byte strings have more than `i32::MAX` bytes.
     TooLong,
     /// A format does not fit the numbers of an array.
     BadFormat {
@@ -79,6 +93,11 @@ pub enum Error {
         format: String,
         /// The type of the array.
         array: String,
+    },
+    /// Decimals of 128 bits have a precision of 1 to 38.
+    BadPrecision {
+        /// The precision that was asked for.
+        precision: u8,
     },
     /// The name of a field has a byte 0.
     BadName {
@@ -90,7 +109,12 @@ pub enum Error {
     /// More than 2^20 types in types.
     TooManyTypes,
     /// The call does not support this type.
-    Unsupported,
+    Unsupported {
+        /// The type.
+        format: String,
+    },
+    /// A column of another crate has a validity of its own, and takes no other.
+    ForeignValidity,
     /// A key names no entry, a view leads to no bytes or to others than it begins with, or a text
     /// is not UTF-8. In a column of another crate also offsets that go back, or the name of a field
     /// that is not UTF-8. The library does not say which.
@@ -107,31 +131,34 @@ pub enum Error {
 }
 
 impl Error {
+    /// Makes the error of a call that does not support the type of an array.
+    pub(crate) fn unsupported(array: &Array<'_>) -> Error {
+        let format = array.type_text();
+        Error::Unsupported { format }
+    }
+
+    /// Makes the error of a call on two arrays that differ in type.
+    pub(crate) fn types_differ(left: &Array<'_>, right: &Array<'_>) -> Error {
+        let (left, right) = (left.type_text(), right.type_text());
+        Error::TypeMismatch { left, right }
+    }
+
     /// Returns nothing for the status 0, and an error for each other.
     pub(crate) fn check(status: i32) -> Result<(), Error> {
         Err(match status {
             0 => return Ok(()),
             1 => Error::BadArray,
             4 => Error::NoMemory,
-            5 => Error::Unsupported,
             6 => Error::BadStructs,
             7 => Error::BadArgument,
-            8 => Error::OutOfRange,
             other => Error::Unknown(other),
         })
     }
 
-    /// Checks the status of a call on two arrays of one length, whose types may differ.
-    pub(crate) fn check_types(
-        status: i32,
-        left: &Array<'_>,
-        right: &Array<'_>,
-    ) -> Result<(), Error> {
+    /// Checks the status of a call on an array, whose type it may not support.
+    pub(crate) fn check_array(status: i32, array: &Array<'_>) -> Result<(), Error> {
         match status {
-            2 => Err(Error::TypeMismatch {
-                left: left.type_text(),
-                right: right.type_text(),
-            }),
+            5 => Err(Error::unsupported(array)),
             other => Error::check(other),
         }
     }
@@ -143,45 +170,83 @@ impl Error {
                 number,
                 format: array.type_text(),
             }),
-            other => Error::check(other),
+            other => Error::check_array(other, array),
         }
     }
 }
 
 impl fmt::Display for Error {
     fn fmt(&self, f: &mut fmt::Formatter<'_>) -> fmt::Result {
-        f.write_str(match self {
+        match self {
             Error::LengthMismatch { left, right } => {
-                return write!(f, "the lengths differ: {left} and {right}");
-            }
-            Error::TypeMismatch { left, right } => {
-                return write!(f, "the types differ: {left} and {right}");
+                write!(f, "the lengths differ: {left} and {right}")
             }
             Error::RangeMismatch { left, right } => {
-                return write!(f, "the ranges differ: {left:?} and {right:?}");
+                write!(f, "the ranges differ: {left:?} and {right:?}")
+            }
+            Error::OutOfUniqueRange { range } => {
+                write!(f, "a row lies outside of the range {range:?}")
+            }
+            Error::BadRange { least, greatest } => write!(
+                f,
+                "the range {least}..={greatest} is empty, or has 2^64 - 1 numbers or more"
+            ),
+            Error::WrongLength { what, has, needs } => {
+                write!(f, "the {what} have length {has}, and {needs} is needed")
+            }
+            Error::OffsetsPastEnd { end, what, has } => {
+                write!(f, "the offsets end at {end}, but there are {has} {what}")
+            }
+            Error::SliceOutOfBounds { first, rows, len } => {
+                write!(f, "there are no {rows} rows from row {first} on, of {len}")
+            }
+            Error::BadPrecision { precision } => write!(
+                f,
+                "decimals of 128 bits have a precision of 1 to 38, not {precision}"
+            ),
+            Error::BadName { name } => write!(f, "the name {name:?} has a byte 0"),
+            Error::Unknown(status) => write!(f, "unknown status {status} of libdunkelva"),
+            others => others.write_type(f),
+        }
+    }
+}
+
+impl Error {
+    /// Writes the message, if it is about types.
+    fn write_type(&self, f: &mut fmt::Formatter<'_>) -> fmt::Result {
+        match self {
+            Error::TypeMismatch { left, right } => {
+                write!(f, "the types differ: {} and {}", Shown(left), Shown(right))
             }
             Error::NotRepresentable { number, format } => {
-                return write!(f, "the type {format} has no number {number}");
+                write!(f, "the type {} has no number {number}", Shown(format))
             }
-            Error::OutOfRange => "a row lies outside of the range",
-            Error::BadRange { least, greatest } => {
-                return write!(f, "there is no state of the range {least}..={greatest}");
-            }
-            Error::Length { what, has, needs } => {
-                return write!(f, "the {what} have length {has}, and {needs} is needed");
-            }
-            Error::OutOfBounds { first, rows, len } => {
-                return write!(f, "there are no {rows} rows from row {first} on, of {len}");
-            }
-            Error::BadOffsets => "an offset is less than the one before it, or less than 0",
-            Error::TooLong => "the texts have more than 2147483647 bytes",
             Error::BadFormat { format, array } => {
-                return write!(f, "the format {format:?} does not fit the type {array}");
+                write!(
+                    f,
+                    "the format {format:?} does not fit the type {}",
+                    Shown(array)
+                )
             }
-            Error::BadName { name } => return write!(f, "the name {name:?} has a byte 0"),
+            Error::Unsupported { format } => {
+                write!(f, "the call does not support the type {}", Shown(format))?;
+                if Shown(format).has_floats() {
+                    f.write_str(": floats are compared by equal_with with floats_by_bits")?;
+                }
+                Ok(())
+            }
+            others => f.write_str(others.fixed_message()),
+        }
+    }
+
+    /// Returns the message, if it is always the same.
+    fn fixed_message(&self) -> &'static str {
+        match self {
+            Error::BadOffsets => "an offset is less than the one before it, or less than 0",
+            Error::TooLong => "the texts or byte strings have more than 2147483647 bytes",
             Error::TooDeep => "the types are nested more than 64 levels deep",
             Error::TooManyTypes => "there are more than 1048576 types in types",
-            Error::Unsupported => "the call does not support this type",
+            Error::ForeignValidity => "a column of another crate has a validity of its own",
             Error::BadArray => {
                 "a key names no entry, a view is wrong, or a text is not UTF-8; in a column of \
                  another crate also offsets or names can be wrong"
@@ -189,10 +254,9 @@ impl fmt::Display for Error {
             Error::BadStructs => {
                 "the structs break the Arrow C data interface, or have too many types"
             }
-            Error::BadArgument => "the library refused an argument",
             Error::NoMemory => "an allocation failed",
-            Error::Unknown(status) => return write!(f, "unknown status {status} of libdunkelva"),
-        })
+            _ => "the library refused an argument",
+        }
     }
 }
 

@@ -114,7 +114,7 @@ impl Offset for i64 {
 }
 
 /// Returns the plain format of the whole numbers of 8 to 64 bits that a format stands for. The
-/// argument has no byte 0 behind it.
+/// argument has no byte 0 at its end.
 pub(crate) fn numbers_of(format: &[u8]) -> Option<&'static [u8]> {
     let plain = [i8::FORMAT, i16::FORMAT, i32::FORMAT, i64::FORMAT]
         .into_iter()

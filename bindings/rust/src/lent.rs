@@ -3,7 +3,7 @@
 
 use crate::format::sealed::{Sealed, Slice};
 use crate::sys::Foreign;
-use crate::Array;
+use crate::{Array, Buffer};
 use std::borrow::Cow;
 use std::ffi::{c_void, CString};
 use std::sync::Arc;
@@ -14,7 +14,7 @@ pub(crate) trait Elements: Send + Sync {
     fn slice(&self) -> Slice<'_>;
 }
 
-impl<T: Sealed> Elements for &[T] {
+impl<T: Sealed> Elements for Buffer<'_, T> {
     fn start(&self) -> *const c_void {
         self.as_ptr().cast()
     }
@@ -24,17 +24,13 @@ impl<T: Sealed> Elements for &[T] {
     }
 }
 
-impl<T: Sealed> Elements for Vec<T> {
-    fn start(&self) -> *const c_void {
-        self.as_ptr().cast()
-    }
+/// A buffer of any elements, which arrays share.
+pub(crate) type Shared<'a> = Arc<dyn Elements + 'a>;
 
-    fn slice(&self) -> Slice<'_> {
-        T::lend(self)
-    }
+/// Makes a buffer that arrays can share.
+pub(crate) fn shared<'a, T: Sealed + 'a>(elements: impl Into<Buffer<'a, T>>) -> Shared<'a> {
+    Arc::new(elements.into())
 }
-
-pub(crate) type Buffer<'a> = Arc<dyn Elements + 'a>;
 
 #[derive(Clone)]
 pub(crate) enum Content<'a> {
@@ -46,11 +42,11 @@ pub(crate) enum Content<'a> {
 /// The memory that the structs of an array point to.
 #[derive(Clone)]
 pub(crate) struct Lent<'a> {
-    /// The format, with a byte 0 behind it.
+    /// The format, with a byte 0 at its end.
     pub(crate) format: Cow<'static, [u8]>,
-    pub(crate) validity: Option<Buffer<'a>>,
-    /// The buffers behind the validity.
-    pub(crate) buffers: Vec<Buffer<'a>>,
+    pub(crate) validity: Option<Shared<'a>>,
+    /// The buffers after the validity.
+    pub(crate) buffers: Vec<Shared<'a>>,
     pub(crate) fields: Vec<Field<'a>>,
     /// The entries of a dictionary.
     pub(crate) entries: Option<Box<Array<'a>>>,
@@ -62,15 +58,18 @@ impl Lent<'_> {
         *self.format != *b"n\0"
     }
 
-    /// Returns the texts of the types inside: fields with their names, items, entries.
+    /// Returns the texts of the types inside: fields with their names, items, entries. A name that
+    /// has other characters than letters, digits and `_` stands in quotes.
     pub(crate) fn inside(&self) -> Vec<String> {
         let is_struct = *self.format == *b"+s\0";
         let field = |field: &Field<'_>| {
             let text = field.array.type_text();
-            if is_struct {
-                format!("{}: {text}", field.name.to_string_lossy())
-            } else {
-                text
+            let name = field.name.to_string_lossy();
+            let is_plain = |it: &str| it.chars().all(|it| it.is_alphanumeric() || it == '_');
+            match (is_struct, !name.is_empty() && is_plain(&name)) {
+                (false, _) => text,
+                (true, true) => format!("{name}: {text}"),
+                (true, false) => format!("{name:?}: {text}"),
             }
         };
         let entries = self.entries.iter().map(|it| it.type_text());

@@ -5,6 +5,7 @@
 mod arithmetic;
 mod array;
 mod bitmap;
+mod buffer;
 mod calls;
 mod collect;
 mod counts;
@@ -13,6 +14,7 @@ mod format;
 mod lent;
 mod make;
 mod mask;
+mod names;
 mod numbers;
 mod structs;
 #[allow(unsafe_code)]
@@ -26,9 +28,10 @@ pub use crate::arithmetic::{
 };
 pub use crate::array::Array;
 pub use crate::bitmap::{Bitmap, Bits};
+pub use crate::buffer::{BitBuffer, Buffer};
 pub use crate::calls::{
     compare, compare_number, equal, equal_counted, equal_with, is_null, max, min, min_max,
-    not_equal, reduce_bits, sum, version, BitOperation, Comparison, EqualOptions,
+    not_equal, reduce_bits, version, wrapping_sum, BitOperation, Comparison, EqualOptions,
 };
 pub use crate::counts::{
     count_ones, count_zeros, leading_ones, leading_zeros, trailing_ones, trailing_zeros,

@@ -1,20 +1,21 @@
-//! How arrays are made of slices and of other arrays.
+//! How arrays are made of elements and of other arrays.
 #![forbid(unsafe_code)]
 
 use crate::format::{Integer, Number, Offset};
-use crate::lent::{Buffer, Content, Field, Lent};
-use crate::{Array, Bitmap, Error, Mask};
+use crate::lent::{shared, Content, Field, Lent, Shared};
+use crate::{Array, BitBuffer, Buffer, Error};
 use std::borrow::Cow;
 use std::ffi::CString;
 use std::sync::Arc;
 
 /// Levels of types in types, and types in all, that the library takes.
-const MOST_LEVELS: usize = 64;
+pub(crate) const MOST_LEVELS: usize = 64;
 const MOST_TYPES: usize = 1 << 20;
 
 /// Makes arrays of one level.
 impl<'a> Array<'a> {
-    /// Lends numbers. For arithmetic there is [`Numbers`](crate::Numbers).
+    /// Borrows numbers of a slice, or keeps those of a vector. For arithmetic there is
+    /// [`Numbers`](crate::Numbers).
     ///
     /// # Examples
     ///
@@ -25,37 +26,66 @@ impl<'a> Array<'a> {
     /// assert_eq!(max(&Array::numbers(&prices))?, Some(800));
     /// # Ok::<(), Error>(())
     /// ```
-    pub fn numbers<T: Number>(values: &'a [T]) -> Self {
-        Array::flat(values.len(), T::FORMAT, vec![Arc::new(values)])
+    pub fn numbers<T: Number>(values: impl Into<Buffer<'a, T>>) -> Self {
+        let values = values.into();
+        Array::flat(values.len(), T::FORMAT, vec![shared(values)])
     }
 
-    /// Lends decimals of 128 bits, numbers of steps of `10^-scale`.
-    pub fn decimals(values: &'a [i128], precision: u8, scale: i8) -> Self {
+    /// Borrows or keeps decimals of 128 bits: row `i` is `values[i] * 10^-scale`, which has at most
+    /// `precision` digits.
+    ///
+    /// # Errors
+    ///
+    /// [`Error::BadPrecision`], if the precision is not from 1 to 38.
+    ///
+    /// # Examples
+    ///
+    /// ```
+    /// use dunkelva::{not_equal, Array, Error};
+    ///
+    /// let old = Array::decimals(&[12_50, 3_00], 9, 2)?; // 12.50 and 3.00
+    /// let new = Array::decimals(vec![12_75, 3_00], 9, 2)?;
+    /// assert_eq!(not_equal(&old, &new)?.set_indices().collect::<Vec<_>>(), [0]);
+    /// # Ok::<(), Error>(())
+    /// ```
+    pub fn decimals(
+        values: impl Into<Buffer<'a, i128>>,
+        precision: u8,
+        scale: i8,
+    ) -> Result<Self, Error> {
+        if !(1..=38).contains(&precision) {
+            return Err(Error::BadPrecision { precision });
+        }
+        let values = values.into();
         let format = format!("d:{precision},{scale}\0").into_bytes();
-        Array::flat(values.len(), format, vec![Arc::new(values)])
+        Ok(Array::flat(values.len(), format, vec![shared(values)]))
     }
 
-    /// Lends truth values: bits, or a [`Mask`](crate::Mask).
+    /// Borrows truth values of a [`Bitmap`](crate::Bitmap) or a `&Mask`, or keeps those of a
+    /// [`Mask`](crate::Mask).
     ///
     /// # Examples
     ///
     /// ```
     /// use dunkelva::{equal, Array, Error, Mask};
     ///
-    /// let paid: Mask = vec![true, false, true].into_iter().collect();
+    /// let paid = Mask::from(vec![true, false, true]);
     /// let same = equal(&Array::booleans(&paid), &[true, true, true].into_iter().collect())?;
     /// assert_eq!(same, paid);
     /// # Ok::<(), Error>(())
     /// ```
-    pub fn booleans(values: impl Into<Bitmap<'a>>) -> Self {
-        let values = values.into();
-        let (first, bytes) = values.parts();
-        let mut array = Array::flat(values.len(), b"b\0".as_slice(), vec![Arc::new(bytes)]);
-        array.offset = first;
-        array
+    pub fn booleans(values: impl Into<BitBuffer<'a>>) -> Self {
+        let (rows, offset, bytes) = match values.into() {
+            BitBuffer::Borrowed(bits) => (bits.len(), bits.parts().0, shared(bits.parts().1)),
+            BitBuffer::Owned(mask) => (mask.len(), 0, shared(mask.into_bytes())),
+        };
+        Array {
+            offset,
+            ..Array::flat(rows, b"b\0".as_slice(), vec![bytes])
+        }
     }
 
-    /// Lends texts: those of row `i` are the bytes from `offsets[i]` to `offsets[i + 1]`.
+    /// Borrows or keeps texts: that of row `i` is the bytes from `offsets[i]` to `offsets[i + 1]`.
     ///
     /// Texts are compared as bytes. They are checked to be UTF-8 only with
     /// [`EqualOptions::check_texts`](crate::EqualOptions::check_texts). Without offsets there is no
@@ -63,8 +93,8 @@ impl<'a> Array<'a> {
     ///
     /// # Errors
     ///
-    /// [`Error::BadOffsets`], if the offsets go back, and [`Error::Length`], if they end behind the
-    /// bytes.
+    /// [`Error::BadOffsets`], if the offsets go back, and [`Error::OffsetsPastEnd`], if they end
+    /// after the bytes.
     ///
     /// # Examples
     ///
@@ -74,43 +104,44 @@ impl<'a> Array<'a> {
     /// let (offsets, bytes) = (vec![0, 3, 3, 6], b"onetwo".to_vec());
     /// let words = Array::texts(&offsets, &bytes)?;
     /// assert!(equal(&words, &["one", "", "two"].into_iter().collect())?.all());
+    /// let error = Array::texts(&[0, 3, 9], b"one").unwrap_err();
+    /// assert_eq!(error.to_string(), "the offsets end at 9, but there are 3 bytes");
     /// # Ok::<(), Error>(())
     /// ```
-    pub fn texts<O: Offset>(offsets: &'a [O], bytes: &'a [u8]) -> Result<Self, Error> {
-        let rows = rows_of(offsets, bytes.len(), "bytes")?;
-        Ok(Array::flat(
-            rows,
-            O::TEXTS,
-            vec![Arc::new(offsets), Arc::new(bytes)],
-        ))
+    pub fn texts<O: Offset>(
+        offsets: impl Into<Buffer<'a, O>>,
+        bytes: impl Into<Buffer<'a, u8>>,
+    ) -> Result<Self, Error> {
+        Array::strings(O::TEXTS, offsets.into(), bytes.into())
     }
 
-    /// Lends byte strings, as [`texts`](Array::texts) lends texts.
+    /// Borrows or keeps byte strings, as [`texts`](Array::texts) does with texts.
     ///
     /// # Errors
     ///
-    /// Those of [`texts`](Array::texts).
-    pub fn binary<O: Offset>(offsets: &'a [O], bytes: &'a [u8]) -> Result<Self, Error> {
-        let rows = rows_of(offsets, bytes.len(), "bytes")?;
-        Ok(Array::flat(
-            rows,
-            O::BINARY,
-            vec![Arc::new(offsets), Arc::new(bytes)],
-        ))
+    /// [`Error::BadOffsets`], if the offsets go back, and [`Error::OffsetsPastEnd`], if they end
+    /// after the bytes.
+    pub fn binary<O: Offset>(
+        offsets: impl Into<Buffer<'a, O>>,
+        bytes: impl Into<Buffer<'a, u8>>,
+    ) -> Result<Self, Error> {
+        Array::strings(O::BINARY, offsets.into(), bytes.into())
     }
 
-    /// Lends byte strings of `width` bytes each.
+    /// Borrows or keeps byte strings of `width` bytes each.
     ///
     /// # Errors
     ///
-    /// [`Error::Length`], if there are fewer bytes than rows of this width.
-    pub fn fixed_size_binary(rows: usize, width: usize, bytes: &'a [u8]) -> Result<Self, Error> {
+    /// [`Error::WrongLength`], if there are fewer bytes than rows of this width.
+    pub fn fixed_size_binary(
+        rows: usize,
+        width: usize,
+        bytes: impl Into<Buffer<'a, u8>>,
+    ) -> Result<Self, Error> {
+        let bytes = bytes.into();
         has_at_least("bytes", bytes.len(), rows.saturating_mul(width))?;
-        Ok(Array::flat(
-            rows,
-            format!("w:{width}\0").into_bytes(),
-            vec![Arc::new(bytes)],
-        ))
+        let format = format!("w:{width}\0").into_bytes();
+        Ok(Array::flat(rows, format, vec![shared(bytes)]))
     }
 
     /// Makes rows that are null and have no other type.
@@ -118,26 +149,23 @@ impl<'a> Array<'a> {
         Array::flat(rows, b"n\0".as_slice(), Vec::new())
     }
 
-    /// Copies texts.
-    ///
-    /// # Errors
-    ///
-    /// [`Error::TooLong`], if all texts together have more than `i32::MAX` bytes.
-    pub fn from_texts<'t>(rows: impl IntoIterator<Item = Option<&'t str>>) -> Result<Self, Error> {
-        let (mut offsets, mut bytes, mut present) = (vec![0], Vec::new(), Mask::default());
-        for row in rows {
-            bytes.extend_from_slice(row.unwrap_or_default().as_bytes());
-            offsets.push(i32::try_from(bytes.len()).map_err(|_| Error::TooLong)?);
-            present.push(row.is_some());
-        }
-        let buffers: Vec<Buffer<'a>> = vec![Arc::new(offsets), Arc::new(bytes)];
-        Ok(Array::flat(present.len(), i32::TEXTS, buffers).with_present(present))
+    fn strings<O: Offset>(
+        format: &'static [u8],
+        offsets: Buffer<'a, O>,
+        bytes: Buffer<'a, u8>,
+    ) -> Result<Self, Error> {
+        let rows = rows_of(&offsets, bytes.len(), "bytes")?;
+        Ok(Array::flat(
+            rows,
+            format,
+            vec![shared(offsets), shared(bytes)],
+        ))
     }
 
     pub(crate) fn flat(
         rows: usize,
         format: impl Into<Cow<'static, [u8]>>,
-        buffers: Vec<Buffer<'a>>,
+        buffers: Vec<Shared<'a>>,
     ) -> Self {
         let format = format.into();
         let lent = Lent {
@@ -158,17 +186,15 @@ impl<'a> Array<'a> {
 }
 
 /// Makes arrays of arrays.
-///
-/// Besides what each says, they return [`Error::TooDeep`] for more than 64 levels of types in
-/// types, and [`Error::TooManyTypes`] for more than 2^20 types.
 impl<'a> Array<'a> {
-    /// Lends lists: that of row `i` has the items from `offsets[i]` to `offsets[i + 1]`. Without
-    /// offsets there is no row.
+    /// Makes lists: that of row `i` has the items from `offsets[i]` to `offsets[i + 1]`. The
+    /// offsets are borrowed, or kept if they are a vector. Without offsets there is no row.
     ///
     /// # Errors
     ///
-    /// [`Error::BadOffsets`], if the offsets go back, and [`Error::Length`], if they end behind the
-    /// items.
+    /// [`Error::BadOffsets`], if the offsets go back; [`Error::OffsetsPastEnd`], if they end after
+    /// the items; [`Error::TooDeep`] for more than 64 levels of types in types;
+    /// [`Error::TooManyTypes`] for more than 2^20 types.
     ///
     /// # Examples
     ///
@@ -177,13 +203,17 @@ impl<'a> Array<'a> {
     ///
     /// let (offsets, items) = (vec![0, 2, 2, 3], vec![7, 8, 9]);
     /// let lists = Array::list(&offsets, Array::from(&items))?; // [7, 8] [] [9]
-    /// let others = Array::list(&[0, 1, 1, 2], Array::numbers(&[7, 9]))?; // [7] [] [9]
+    /// let others = Array::list(vec![0, 1, 1, 2], Array::numbers(vec![7, 9]))?; // [7] [] [9]
     /// assert_eq!(equal(&lists, &others)?.iter().collect::<Vec<_>>(), [false, true, true]);
     /// # Ok::<(), Error>(())
     /// ```
-    pub fn list<O: Offset>(offsets: &'a [O], items: Array<'a>) -> Result<Self, Error> {
-        let rows = rows_of(offsets, items.rows, "items")?;
-        let buffers: Vec<Buffer<'a>> = vec![Arc::new(offsets)];
+    pub fn list<O: Offset>(
+        offsets: impl Into<Buffer<'a, O>>,
+        items: Array<'a>,
+    ) -> Result<Self, Error> {
+        let offsets = offsets.into();
+        let rows = rows_of(&offsets, items.rows, "items")?;
+        let buffers = vec![shared(offsets)];
         Array::nested(rows, O::LIST, buffers, Field::items(items), None)
     }
 
@@ -191,7 +221,9 @@ impl<'a> Array<'a> {
     ///
     /// # Errors
     ///
-    /// [`Error::Length`], if there are fewer items than rows of this width.
+    /// [`Error::WrongLength`], if there are fewer items than rows of this width;
+    /// [`Error::TooDeep`] for more than 64 levels of types in types; [`Error::TooManyTypes`] for
+    /// more than 2^20 types.
     pub fn fixed_size_list(rows: usize, width: usize, items: Array<'a>) -> Result<Self, Error> {
         has_at_least("items", items.rows, rows.saturating_mul(width))?;
         let format = format!("+w:{width}\0").into_bytes();
@@ -202,8 +234,9 @@ impl<'a> Array<'a> {
     ///
     /// # Errors
     ///
-    /// [`Error::Length`], if a column has another number of rows, and [`Error::BadName`], if a name
-    /// has a byte 0.
+    /// [`Error::WrongLength`], if a column has another number of rows; [`Error::BadName`], if a
+    /// name has a byte 0; [`Error::TooDeep`] for more than 64 levels of types in types;
+    /// [`Error::TooManyTypes`] for more than 2^20 types.
     ///
     /// # Examples
     ///
@@ -224,7 +257,7 @@ impl<'a> Array<'a> {
         let field = |(name, array): (N, Array<'a>)| {
             let name = name.into();
             if array.rows != rows {
-                return Err(Error::Length {
+                return Err(Error::WrongLength {
                     what: format!("rows of the field {name:?}"),
                     has: array.rows,
                     needs: rows,
@@ -239,13 +272,15 @@ impl<'a> Array<'a> {
         Array::nested(rows, b"+s\0".as_slice(), Vec::new(), fields, None)
     }
 
-    /// Lends keys of a dictionary: row `i` is the entry `keys[i]`.
+    /// Makes rows of a dictionary: row `i` is the entry `keys[i]`. The keys are borrowed, or kept
+    /// if they are a vector.
     ///
     /// A key that names no entry is refused by the calls, unless its row is null.
     ///
     /// # Errors
     ///
-    /// Only those of all arrays of arrays.
+    /// [`Error::TooDeep`] for more than 64 levels of types in types; [`Error::TooManyTypes`] for
+    /// more than 2^20 types.
     ///
     /// # Examples
     ///
@@ -258,21 +293,20 @@ impl<'a> Array<'a> {
     /// assert_eq!(equal(&cities, &others)?.iter().collect::<Vec<_>>(), [true, false, false]);
     /// # Ok::<(), Error>(())
     /// ```
-    pub fn dictionary<K: Integer>(keys: &'a [K], entries: Array<'a>) -> Result<Self, Error> {
-        let buffers: Vec<Buffer<'a>> = vec![Arc::new(keys)];
-        Array::nested(
-            keys.len(),
-            K::FORMAT,
-            buffers,
-            Vec::new(),
-            Some(Box::new(entries)),
-        )
+    pub fn dictionary<K: Integer>(
+        keys: impl Into<Buffer<'a, K>>,
+        entries: Array<'a>,
+    ) -> Result<Self, Error> {
+        let keys = keys.into();
+        let (rows, buffers) = (keys.len(), vec![shared(keys)]);
+        let entries = Some(Box::new(entries));
+        Array::nested(rows, K::FORMAT, buffers, Vec::new(), entries)
     }
 
     fn nested(
         rows: usize,
         format: impl Into<Cow<'static, [u8]>>,
-        buffers: Vec<Buffer<'a>>,
+        buffers: Vec<Shared<'a>>,
         fields: Vec<Field<'a>>,
         entries: Option<Box<Array<'a>>>,
     ) -> Result<Self, Error> {
@@ -303,7 +337,7 @@ impl<'a> Array<'a> {
 }
 
 /// Returns how many rows offsets make, if they rise and end within `has` bytes or items.
-fn rows_of<O: Offset>(offsets: &[O], has: usize, what: &str) -> Result<usize, Error> {
+fn rows_of<O: Offset>(offsets: &[O], has: usize, what: &'static str) -> Result<usize, Error> {
     let (first, last) = match offsets {
         [] => return Ok(0),
         [first, ..] => (first.place(), offsets[offsets.len() - 1].place()),
@@ -313,10 +347,8 @@ fn rows_of<O: Offset>(offsets: &[O], has: usize, what: &str) -> Result<usize, Er
         .windows(2)
         .fold(false, |found, it| found | (it[1] < it[0]));
     match (first, last) {
-        (Some(_), Some(needs)) if !goes_back => {
-            has_at_least(what, has, needs)?;
-            Ok(offsets.len() - 1)
-        }
+        (Some(_), Some(end)) if !goes_back && end <= has => Ok(offsets.len() - 1),
+        (Some(_), Some(end)) if !goes_back => Err(Error::OffsetsPastEnd { end, what, has }),
         _ => Err(Error::BadOffsets),
     }
 }
@@ -324,7 +356,7 @@ fn rows_of<O: Offset>(offsets: &[O], has: usize, what: &str) -> Result<usize, Er
 /// Refuses a length that is too short.
 fn has_at_least(what: &str, has: usize, needs: usize) -> Result<(), Error> {
     if has < needs {
-        return Err(Error::Length {
+        return Err(Error::WrongLength {
             what: what.into(),
             has,
             needs,

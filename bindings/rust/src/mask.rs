@@ -8,8 +8,8 @@ use std::ops::{BitAnd, BitOr, BitXor, Not};
 
 /// A truth value for each row: what a comparison returns, a validity, or a column.
 ///
-/// It is kept as a validity of Arrow is: row `i` is bit `i % 8` of byte `i / 8`. The bits behind
-/// the last row are 0.
+/// It is kept as a validity of Arrow is: row `i` is bit `i % 8` of byte `i / 8`. The bits after the
+/// last row are 0.
 ///
 /// # Examples
 ///
@@ -17,7 +17,7 @@ use std::ops::{BitAnd, BitOr, BitXor, Not};
 /// use dunkelva::Mask;
 ///
 /// let is_known: Mask = [true, true, false].into_iter().collect();
-/// let is_old: Mask = vec![false, true, true].into_iter().collect();
+/// let is_old = Mask::from(vec![false, true, true]);
 /// let both = &is_known & &is_old;
 /// assert_eq!(both.set_indices().collect::<Vec<_>>(), [1]);
 /// assert!((is_known | is_old).all());
@@ -106,7 +106,7 @@ impl Mask {
         self.bytes
     }
 
-    /// Lends the truth values as bits.
+    /// Borrows the truth values as bits.
     pub fn bitmap(&self) -> Bitmap<'_> {
         Bitmap::new(&self.bytes, 0, self.rows).expect("a mask has a bit for each row")
     }
@@ -204,6 +204,13 @@ impl FromIterator<bool> for Mask {
         let mut mask = Mask::default();
         mask.extend(values);
         mask
+    }
+}
+
+impl From<Vec<bool>> for Mask {
+    /// Packs truth values, eight in a byte.
+    fn from(values: Vec<bool>) -> Mask {
+        values.into_iter().collect()
     }
 }
 

@@ -7,7 +7,7 @@ use crate::format::{Integer, Number};
 use crate::lent::Content;
 use crate::mask::zeros;
 use crate::structs::{Structs, Typed};
-use crate::{Array, Bitmap, Error, Mask};
+use crate::{Array, BitBuffer, Bitmap, Error, Mask};
 use std::fmt;
 use std::iter::FusedIterator;
 use std::marker::PhantomData;
@@ -75,19 +75,19 @@ impl<'a, T: Number> Numbers<'a, T> {
     ///
     /// # Errors
     ///
-    /// [`Error::Length`], if there is not one bit for each row; [`Error::NoMemory`].
+    /// [`Error::WrongLength`], if there is not one bit for each row; [`Error::NoMemory`].
     ///
     /// # Examples
     ///
     /// ```
     /// use dunkelva::{Error, Mask, Numbers};
     ///
-    /// let is_known: Mask = [true, false].into_iter().collect();
-    /// let numbers = Numbers::from(vec![7_u8, 8]).with_validity(&is_known)?;
+    /// let is_known = Mask::from(vec![true, false]);
+    /// let numbers = Numbers::from(vec![7_u8, 8]).with_validity(is_known)?;
     /// assert!(numbers.iter().eq([Some(7), None]));
     /// # Ok::<(), Error>(())
     /// ```
-    pub fn with_validity(self, present: impl Into<Bitmap<'a>>) -> Result<Self, Error> {
+    pub fn with_validity(self, present: impl Into<BitBuffer<'a>>) -> Result<Self, Error> {
         self.array.with_validity(present).map(Numbers::kept_as)
     }
 
@@ -104,7 +104,7 @@ impl<'a, T: Number> Numbers<'a, T> {
     ///
     /// # Errors
     ///
-    /// [`Error::OutOfBounds`], if there are no such rows.
+    /// [`Error::SliceOutOfBounds`], if there are no such rows.
     pub fn slice(&self, first: usize, rows: usize) -> Result<Self, Error> {
         self.array.slice(first, rows).map(Numbers::kept_as)
     }
@@ -189,21 +189,21 @@ impl<'a, T> From<Numbers<'a, T>> for Array<'a> {
 }
 
 impl<'a, T: Number> From<&'a [T]> for Numbers<'a, T> {
-    /// Lends numbers.
+    /// Borrows numbers.
     fn from(values: &'a [T]) -> Self {
         Numbers::kept_as(Array::from(values))
     }
 }
 
 impl<'a, T: Number, const N: usize> From<&'a [T; N]> for Numbers<'a, T> {
-    /// Lends numbers.
+    /// Borrows numbers.
     fn from(values: &'a [T; N]) -> Self {
         Numbers::kept_as(Array::from(values))
     }
 }
 
 impl<'a, T: Number> From<&'a Vec<T>> for Numbers<'a, T> {
-    /// Lends numbers.
+    /// Borrows numbers.
     fn from(values: &'a Vec<T>) -> Self {
         Numbers::kept_as(Array::from(values))
     }

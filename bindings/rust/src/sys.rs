@@ -258,7 +258,7 @@ impl<'a> Foreign<'a> {
         self.schema
     }
 
-    /// Returns the format, without a byte 0 behind it. That of a dictionary is that of its keys.
+    /// Returns the format, without the byte 0 at its end. That of a dictionary is that of its keys.
     pub(crate) fn format(&self) -> Option<&'a [u8]> {
         if self.schema.format.is_null() {
             return None;

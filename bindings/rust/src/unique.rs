@@ -25,7 +25,8 @@ use std::ops::RangeInclusive;
 /// seen.merge(&others)?;
 /// assert_eq!(seen.values()?, [3, 7, 10]);
 /// assert_eq!((seen.count(), seen.has_null()), (4, true));
-/// assert_eq!(seen.append(&Array::numbers(&[5, 11])), Err(Error::OutOfRange));
+/// let error = seen.append(&Array::numbers(&[5, 11])).unwrap_err();
+/// assert_eq!(error.to_string(), "a row lies outside of the range 1..=10");
 /// # Ok::<(), Error>(())
 /// ```
 #[derive(Clone, Debug, PartialEq, Eq, Hash)]
@@ -41,8 +42,8 @@ impl Unique {
     ///
     /// # Errors
     ///
-    /// [`Error::BadRange`], if the ends are not in order, or if there are 2^64 - 1 numbers or more
-    /// between them; [`Error::NoMemory`], if there is no memory for a bit for each.
+    /// [`Error::BadRange`], if the range is empty, or has 2^64 - 1 numbers or more, its ends
+    /// included; [`Error::NoMemory`], if there is no memory for a bit for each.
     pub fn new<N: Into<i128>>(range: RangeInclusive<N>) -> Result<Self, Error> {
         let (least, greatest) = range.into_inner();
         let (least, greatest) = (least.into(), greatest.into());
@@ -64,11 +65,12 @@ impl Unique {
         })
     }
 
-    /// Adds the rows of an array of whole numbers of 8 to 64 bits, or of what is kept as such.
+    /// Adds the rows of an array of whole numbers of 8 to 64 bits, or of what is kept as such:
+    /// dates, times, points in time, spans, decimals of 32 and 64 bits.
     ///
     /// # Errors
     ///
-    /// They change nothing: [`Error::OutOfRange`], if a row is a number outside of the range;
+    /// They change nothing: [`Error::OutOfUniqueRange`], if a row is a number outside of the range;
     /// [`Error::NotRepresentable`], if the array's type lacks an end of the range;
     /// [`Error::Unsupported`] for other types; [`Error::NoMemory`].
     pub fn append(&mut self, array: &Array<'_>) -> Result<(), Error> {
@@ -76,7 +78,11 @@ impl Unique {
         let lowest = array.plain_format().and_then(bounds).map(|it| it.0);
         let has_least = lowest.map_or(true, |it| it <= self.least);
         let number = if has_least { self.greatest } else { self.least };
-        self.change(|state| Error::check_number(sys::unique_append(state, &structs), array, number))
+        let range = self.range();
+        self.change(|state| match sys::unique_append(state, &structs) {
+            8 => Err(Error::OutOfUniqueRange { range }),
+            status => Error::check_number(status, array, number),
+        })
     }
 
     /// Adds what another state has seen.

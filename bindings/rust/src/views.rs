@@ -1,9 +1,8 @@
 //! Columns of texts and byte strings whose rows are views.
 #![forbid(unsafe_code)]
 
-use crate::lent::Buffer;
+use crate::lent::{shared, Shared};
 use crate::{Array, Error, Mask};
-use std::sync::Arc;
 
 const TEXTS: &[u8] = b"vu\0";
 const BINARY: &[u8] = b"vz\0";
@@ -16,7 +15,7 @@ const MOST_BYTES: usize = i32::MAX as usize;
 
 /// Makes columns of views, which polars keeps its texts in.
 impl<'a> Array<'a> {
-    /// Lends texts by views of 16 bytes, one for each row. A view begins with the length in four
+    /// Borrows texts by views of 16 bytes, one for each row. A view begins with the length in four
     /// bytes. A text of at most 12 bytes follows, filled up with zeros. Of a longer one its first
     /// four bytes follow, then the number of the buffer that has it, and where it begins there.
     /// All numbers have the least byte first.
@@ -39,56 +38,91 @@ impl<'a> Array<'a> {
     /// # Ok::<(), Error>(())
     /// ```
     pub fn text_views(views: &'a [u128], buffers: &[&'a [u8]]) -> Self {
-        let sizes = buffers.iter().map(|it| it.len()).collect();
-        let lent = buffers.iter().map(|it| Arc::new(*it) as Buffer<'a>);
-        Array::views(TEXTS, views.len(), Arc::new(views), lent.collect(), sizes)
+        Array::borrowed_views(TEXTS, views, buffers)
     }
 
-    /// Lends byte strings by views, as [`text_views`](Array::text_views) lends texts.
+    /// Borrows byte strings by views, as [`text_views`](Array::text_views) borrows texts.
     pub fn binary_views(views: &'a [u128], buffers: &[&'a [u8]]) -> Self {
-        let sizes = buffers.iter().map(|it| it.len()).collect();
-        let lent = buffers.iter().map(|it| Arc::new(*it) as Buffer<'a>);
-        Array::views(BINARY, views.len(), Arc::new(views), lent.collect(), sizes)
+        Array::borrowed_views(BINARY, views, buffers)
     }
 
-    /// Copies texts, and makes views of them.
+    /// Copies texts, as [`from_texts`](Array::from_texts) does, and makes views of them.
     ///
     /// # Errors
     ///
     /// [`Error::TooLong`], if a text has more than `i32::MAX` bytes, or the texts need more than
     /// `i32::MAX` buffers.
-    pub fn from_texts_as_views<'t>(
-        rows: impl IntoIterator<Item = Option<&'t str>>,
+    pub fn from_texts_as_views<S: AsRef<str>>(
+        rows: impl IntoIterator<Item = Option<S>>,
     ) -> Result<Self, Error> {
-        let (mut views, mut present, mut buffers) = (Vec::new(), Mask::default(), Vec::new());
+        let mut views = Views::default();
         for row in rows {
-            views.push(view_of(
-                row.unwrap_or_default().as_bytes(),
-                &mut buffers,
-                MOST_BYTES,
-            )?);
-            present.push(row.is_some());
+            views.push(row.as_ref().map(|it| it.as_ref().as_bytes()))?;
         }
-        let sizes = buffers.iter().map(Vec::len).collect();
-        let kept = buffers.into_iter().map(|it| Arc::new(it) as Buffer<'a>);
-        let rows = views.len();
-        let array = Array::views(TEXTS, rows, Arc::new(views), kept.collect(), sizes);
-        Ok(array.with_present(present))
+        Ok(views.into_array(TEXTS))
+    }
+
+    /// Copies byte strings, as [`from_binary`](Array::from_binary) does, and makes views of them.
+    ///
+    /// # Errors
+    ///
+    /// [`Error::TooLong`], if a byte string has more than `i32::MAX` bytes, or the byte strings
+    /// need more than `i32::MAX` buffers.
+    pub fn from_binary_as_views<S: AsRef<[u8]>>(
+        rows: impl IntoIterator<Item = Option<S>>,
+    ) -> Result<Self, Error> {
+        let mut views = Views::default();
+        for row in rows {
+            views.push(row.as_ref().map(AsRef::as_ref))?;
+        }
+        Ok(views.into_array(BINARY))
+    }
+
+    fn borrowed_views(format: &'static [u8], views: &'a [u128], buffers: &[&'a [u8]]) -> Self {
+        let sizes = buffers.iter().map(|it| it.len()).collect();
+        let data = buffers.iter().map(|&it| shared(it)).collect();
+        Array::views(format, views.len(), shared(views), data, sizes)
     }
 
     fn views(
         format: &'static [u8],
         rows: usize,
-        views: Buffer<'a>,
-        data: Vec<Buffer<'a>>,
+        views: Shared<'a>,
+        data: Vec<Shared<'a>>,
         sizes: Vec<usize>,
     ) -> Self {
         // A slice has at most `isize::MAX` bytes, so that each size is an `i64`.
         let sizes: Vec<i64> = sizes.into_iter().map(|it| it as i64).collect();
         let mut buffers = vec![views];
         buffers.extend(data);
-        buffers.push(Arc::new(sizes));
+        buffers.push(shared(sizes));
         Array::flat(rows, format, buffers)
+    }
+}
+
+/// Views of byte strings that are copied, with the buffers of the long ones.
+#[derive(Default)]
+struct Views {
+    views: Vec<u128>,
+    buffers: Vec<Vec<u8>>,
+    present: Mask,
+}
+
+impl Views {
+    /// Appends a row.
+    fn push(&mut self, row: Option<&[u8]>) -> Result<(), Error> {
+        let view = view_of(row.unwrap_or_default(), &mut self.buffers, MOST_BYTES)?;
+        self.views.push(view);
+        self.present.push(row.is_some());
+        Ok(())
+    }
+
+    /// Returns the rows.
+    fn into_array(self, format: &'static [u8]) -> Array<'static> {
+        let rows = self.views.len();
+        let sizes = self.buffers.iter().map(Vec::len).collect();
+        let data = self.buffers.into_iter().map(shared).collect();
+        Array::views(format, rows, shared(self.views), data, sizes).with_present(self.present)
     }
 }
 

@@ -7,9 +7,9 @@ use common::column::Column;
 use common::number_from;
 use common::row::{Int, Row, Type, INTS};
 use dunkelva::{
-    arithmetic, sum, wrapping_abs, wrapping_add, wrapping_floor_div, wrapping_mod, wrapping_mul,
-    wrapping_neg, wrapping_sub, wrapping_trunc_div, Array, Bitmap, Error, Integer, Numbers,
-    Operation,
+    arithmetic, wrapping_abs, wrapping_add, wrapping_floor_div, wrapping_mod, wrapping_mul,
+    wrapping_neg, wrapping_sub, wrapping_sum, wrapping_trunc_div, Array, Bitmap, Error, Integer,
+    Numbers, Operation,
 };
 
 const OPERATIONS: [Operation; 6] = [
@@ -97,7 +97,7 @@ fn numbers_are_an_array_again() -> Result<(), Error> {
     let validity = numbers.validity().unwrap();
     assert!(validity.iter().eq([false, true, true]));
     assert_eq!((numbers.len(), numbers.is_empty()), (3, false));
-    assert_eq!(sum(&numbers)?, Some(55));
+    assert_eq!(wrapping_sum(&numbers)?, Some(55));
     let twice = wrapping_add(&numbers, &numbers)?;
     assert_eq!(rows(&twice), [None, Some(44), Some(66)]);
     let days = Numbers::from(&[19_000]).with_format("tdD")?;
@@ -139,14 +139,19 @@ fn types_are_refused() {
         right: "i".into(),
     };
     assert_eq!(seconds.to_numbers::<i32>(), Err(other));
-    let refused = |array: Array<'_>| {
-        assert_eq!(array.to_numbers::<i32>(), Err(Error::Unsupported));
+    let refused = |array: Array<'_>, format: &str| {
+        let format = format.into();
+        assert_eq!(
+            array.to_numbers::<i32>(),
+            Err(Error::Unsupported { format })
+        );
     };
-    refused(Array::numbers(&[1.5_f32]));
-    refused(Array::nulls(1));
-    refused(Array::decimals(&[1], 9, 2));
-    refused(Array::dictionary(&[0_i32], Array::numbers(&[5])).unwrap());
-    refused(Array::texts(&[0, 1], b"a").unwrap());
+    refused(Array::numbers(&[1.5_f32]), "f");
+    refused(Array::nulls(1), "n");
+    refused(Array::decimals(&[1], 9, 2).unwrap(), "d:9,2");
+    let keys = Array::dictionary(&[0_i32], Array::numbers(&[5]));
+    refused(keys.unwrap(), "i<i>");
+    refused(Array::texts(&[0, 1], b"a").unwrap(), "u");
 }
 
 /// Calculates with two numbers of a type.

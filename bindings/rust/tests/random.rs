@@ -10,8 +10,8 @@ use common::number_from;
 use common::row::{some_row, some_rows, some_type, Int, Row, Type, INTS};
 use dunkelva::{
     compare, compare_number, count_ones, count_zeros, equal, equal_counted, is_null, leading_ones,
-    leading_zeros, max, min, min_max, not_equal, reduce_bits, sum, trailing_ones, trailing_zeros,
-    Array, BitOperation, Comparison, EqualOptions, Error, Mask,
+    leading_zeros, max, min, min_max, not_equal, reduce_bits, trailing_ones, trailing_zeros,
+    wrapping_sum, Array, BitOperation, Comparison, EqualOptions, Error, Mask,
 };
 
 const LENGTHS: [usize; 9] = [0, 1, 7, 8, 9, 63, 64, 65, 200];
@@ -253,7 +253,7 @@ fn numbers_are_reduced_as_in_rust() {
         let least = present.iter().copied().min();
         let greatest = present.iter().copied().max();
         let total = is_some.then(|| int.wrapped(present.iter().sum()));
-        assert_eq!(sum(&array), Ok(total), "{case}");
+        assert_eq!(wrapping_sum(&array), Ok(total), "{case}");
         assert_eq!(min_max(&array), Ok(least.zip(greatest)), "{case}");
         assert_eq!(
             (min(&array), max(&array)),

@@ -6,7 +6,8 @@ mod common;
 use common::digits;
 use dunkelva::ffi::{ArrowArray, ArrowSchema};
 use dunkelva::{
-    compare_number, equal, is_null, sum, wrapping_neg, Array, Bitmap, Comparison, Error, Numbers,
+    compare_number, equal, is_null, wrapping_neg, wrapping_sum, Array, Bitmap, Comparison, Error,
+    Numbers,
 };
 use std::os::raw::{c_char, c_void};
 use std::ptr;
@@ -55,7 +56,7 @@ struct Exported {
 }
 
 impl Exported {
-    /// Exports `rows` numbers of a slice, those behind `offset` others.
+    /// Exports `rows` numbers of a slice, those after `offset` others.
     fn new(format: &'static [u8], values: &[i32], present: &[u8], offset: i64, rows: i64) -> Self {
         let mut buffers = vec![present.as_ptr().cast(), values.as_ptr().cast()];
         let schema = OtherSchema {
@@ -107,13 +108,16 @@ fn a_column_of_another_crate() -> Result<(), Error> {
     let own: Array<'_> = [Some(1), Some(2), None, Some(4)].into_iter().collect();
     assert_eq!(digits(&equal(&array, &own)?), "1111");
     assert_eq!(digits(&is_null(&array)?), "0010");
-    assert_eq!(sum(&array)?, Some(7));
+    assert_eq!(wrapping_sum(&array)?, Some(7));
     let window = array.slice(1, 3)?; // 2 null 4
     assert_eq!(
         digits(&compare_number(&window, Comparison::Greater, 2)?),
         "001"
     );
-    assert!(matches!(array.slice(1, 4), Err(Error::OutOfBounds { .. })));
+    assert!(matches!(
+        array.slice(1, 4),
+        Err(Error::SliceOutOfBounds { .. })
+    ));
     Ok(())
 }
 
@@ -177,7 +181,7 @@ fn a_column_of_another_crate_in_lists_and_structs() -> Result<(), Error> {
     let told = Array::list(&[0, 5], exported.array()?)
         .unwrap_err()
         .to_string();
-    assert_eq!(told, "the items have length 4, and 5 is needed");
+    assert_eq!(told, "the offsets end at 5, but there are 4 items");
     Ok(())
 }
 
@@ -201,15 +205,34 @@ fn structs_that_are_refused() -> Result<(), Error> {
     let array = exported.array()?;
     assert_eq!(equal(&array, &array), Err(Error::BadStructs));
     assert_eq!(array.to_numbers::<i32>(), Err(Error::BadStructs));
+    Ok(())
+}
+
+#[test]
+fn types_that_are_refused() -> Result<(), Error> {
     let exported = Exported::new(b"+us:0\0", &VALUES, &[0xff], 0, 6);
     let array = exported.array()?;
-    assert_eq!(equal(&array, &array), Err(Error::Unsupported));
-    assert_eq!(array.to_numbers::<i32>(), Err(Error::Unsupported));
-    let present = Bitmap::new(&[0xff], 0, 6)?;
+    let unsupported = Error::Unsupported {
+        format: "+us:0".into(),
+    };
     assert_eq!(
-        array.with_validity(present).map(drop),
-        Err(Error::Unsupported)
+        unsupported.to_string(),
+        "the call does not support the type +us:0 (Union())"
     );
+    assert_eq!(equal(&array, &array), Err(unsupported.clone()));
+    let numbers = Array::numbers(&VALUES);
+    assert_eq!(equal(&array, &numbers), Err(unsupported.clone()));
+    assert_eq!(equal(&numbers, &array), Err(unsupported.clone()));
+    assert_eq!(array.to_numbers::<i32>(), Err(unsupported));
+    Ok(())
+}
+
+#[test]
+fn a_validity_that_is_refused() -> Result<(), Error> {
+    let exported = Exported::new(b"i\0", &VALUES, &[0xff], 0, 6);
+    let present = Bitmap::new(&[0xff], 0, 6)?;
+    let refused = exported.array()?.with_validity(present);
+    assert_eq!(refused.map(drop), Err(Error::ForeignValidity));
     Ok(())
 }
 
@@ -217,7 +240,7 @@ fn structs_that_are_refused() -> Result<(), Error> {
 fn a_column_can_be_sent() -> Result<(), Error> {
     let exported = Exported::new(b"i\0", &VALUES, &[0xff], 0, 6);
     let array = exported.array()?;
-    let total = std::thread::scope(|scope| scope.spawn(|| sum(&array)).join().unwrap());
+    let total = std::thread::scope(|scope| scope.spawn(|| wrapping_sum(&array)).join().unwrap());
     assert_eq!(total, Ok(Some(28)));
     Ok(())
 }

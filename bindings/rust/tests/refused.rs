@@ -3,9 +3,15 @@
 mod common;
 
 use dunkelva::{
-    compare, compare_number, equal, equal_counted, is_null, min_max, sum, wrapping_add, Array,
-    Bitmap, Comparison, EqualOptions, Error, Numbers,
+    compare, compare_number, equal, equal_counted, is_null, min_max, wrapping_add, wrapping_sum,
+    Array, Bitmap, Comparison, EqualOptions, Error, Mask, Numbers,
 };
+
+/// Returns the error of a call that does not support a type.
+fn unsupported<T>(format: &str) -> Result<T, Error> {
+    let format = format.into();
+    Err(Error::Unsupported { format })
+}
 
 /// Returns the message of an error.
 fn message<T: std::fmt::Debug>(result: Result<T, Error>) -> String {
@@ -22,7 +28,7 @@ fn bits_that_are_too_few() {
     for (first, rows) in [(usize::MAX, 1), (1, usize::MAX), (17, 0)] {
         assert!(matches!(
             Bitmap::new(&[0; 2], first, rows),
-            Err(Error::Length { .. })
+            Err(Error::WrongLength { .. })
         ));
     }
     assert_eq!(Bitmap::new(&[0xff], 0, 8).unwrap().get(8), None);
@@ -33,7 +39,7 @@ fn bits_that_are_too_few() {
 fn validities_of_another_length() {
     for rows in [2, 4] {
         let present = Bitmap::new(&[0xff], 0, rows).unwrap();
-        let refused = Err(Error::Length {
+        let refused = Err(Error::WrongLength {
             what: "bits of the validity".into(),
             has: rows,
             needs: 3,
@@ -46,17 +52,22 @@ fn validities_of_another_length() {
     let present = Bitmap::new(&[0xff], 0, 2).unwrap();
     assert_eq!(
         Array::nulls(2).with_validity(present).map(drop),
-        Err(Error::Unsupported)
+        unsupported("n")
+    );
+    let owned = Array::numbers(&[1, 2]).with_validity(Mask::from(vec![true]));
+    assert_eq!(
+        message(owned),
+        "the bits of the validity have length 1, and 2 is needed"
     );
 }
 
 #[test]
 fn offsets_that_lie() {
-    let told = "the bytes have length 3, and 4 is needed";
+    let told = "the offsets end at 4, but there are 3 bytes";
     assert_eq!(message(Array::texts(&[0, 1, 4], b"abc")), told);
     assert_eq!(message(Array::binary(&[0_i64, 4], b"abc")), told);
     assert_eq!(message(Array::texts(&[4_i64], b"abc")), told);
-    let told = "the items have length 2, and 3 is needed";
+    let told = "the offsets end at 3, but there are 2 items";
     assert_eq!(
         message(Array::list(&[0, 1, 3], Array::numbers(&[1, 2]))),
         told
@@ -120,7 +131,7 @@ fn windows_outside() {
     let array = Array::numbers(&[1, 2, 3]);
     assert_eq!(array.slice(3, 0).map(|it| it.len()), Ok(0));
     for (first, rows) in [(0, 4), (4, 0), (2, 2), (usize::MAX, 1), (1, usize::MAX)] {
-        let outside = Error::OutOfBounds {
+        let outside = Error::SliceOutOfBounds {
             first,
             rows,
             len: 3,
@@ -159,12 +170,12 @@ fn formats_that_do_not_fit() {
     let days = Array::numbers(&[1, 2]).with_format("tdD").unwrap();
     assert_eq!(
         message(days.with_format("tts")),
-        "the format \"tts\" does not fit the type tdD"
+        "the format \"tts\" does not fit the type tdD (Date32)"
     );
     let keys = Array::dictionary(&[0_i32], Array::nulls(1)).unwrap();
     assert_eq!(
         message(keys.with_format("tdD")),
-        "the format \"tdD\" does not fit the type i<n>"
+        "the format \"tdD\" does not fit the type i<n> (Dictionary(Int32, Null))"
     );
     // what is taken, the library can read
     for (format, wide) in [("d:9,-2,32", false), ("d:18,0,64", true), ("tsu:", true)] {
@@ -217,8 +228,8 @@ fn types_that_differ() {
         assert_eq!(equal(left, right), Err(differ.clone()));
         let counted = equal_counted(left, right, EqualOptions::default());
         assert_eq!(counted, Err(differ));
-        let told = format!("the types differ: {other} and {one}");
-        assert_eq!(message(equal(right, left)), told);
+        let told = message(equal(right, left));
+        assert!(told.starts_with(&format!("the types differ: {other} (")));
     };
     let (small, wide) = (Array::numbers(&[1]), Array::numbers(&[1_i64]));
     differ(&small, &wide, "i", "l");
@@ -254,6 +265,25 @@ fn types_that_differ() {
 }
 
 #[test]
+fn types_are_told_with_their_names_in_arrow() {
+    let told = |left: Result<Array<'_>, Error>, right: Result<Array<'_>, Error>| {
+        message(equal(&left.unwrap(), &right.unwrap()))
+    };
+    let (texts, large) = (Array::texts(&[0_i32], b""), Array::texts(&[0_i64], b""));
+    assert_eq!(
+        told(texts, large),
+        "the types differ: u (Utf8) and U (LargeUtf8)"
+    );
+    let lists = Array::list(&[0, 1], Array::numbers(&[1_u8]));
+    let rows = [("a b", Array::nulls(1)), ("c", Array::numbers(&[1_i64]))];
+    assert_eq!(
+        told(lists, Array::structs(1, rows)),
+        "the types differ: +l<C> (List(UInt8)) and \
+         +s<\"a b\": n, c: l> (Struct(\"a b\": Null, c: Int64))"
+    );
+}
+
+#[test]
 fn numbers_that_a_type_lacks() {
     let bytes = Array::numbers(&[1_i8]);
     for number in [128, -129, i64::MAX] {
@@ -266,24 +296,56 @@ fn numbers_that_a_type_lacks() {
     }
     assert_eq!(
         message(compare_number(&bytes, Comparison::Less, 128)),
-        "the type c has no number 128"
+        "the type c (Int8) has no number 128"
     );
 }
 
 #[test]
 fn types_that_a_call_does_not_take() {
     let bytes = Array::binary(&[0, 1], b"a").unwrap();
-    assert_eq!(sum(&bytes), Err(Error::Unsupported));
-    assert_eq!(min_max(&Array::numbers(&[1.5])), Err(Error::Unsupported));
+    assert_eq!(wrapping_sum(&bytes), unsupported("z"));
     assert_eq!(
-        compare_number(&bytes, Comparison::Less, 1),
-        Err(Error::Unsupported)
+        message(wrapping_sum(&bytes)),
+        "the call does not support the type z (Binary)"
     );
-    assert_eq!(sum(&Array::decimals(&[1], 38, 0)), Err(Error::Unsupported));
-    assert_eq!(
-        compare(&bytes, Comparison::Less, &bytes),
-        Err(Error::Unsupported)
-    );
+    assert_eq!(min_max(&Array::numbers(&[1.5])), unsupported("g"));
+    let less = compare_number(&bytes, Comparison::Less, 1);
+    assert_eq!(less, unsupported("z"));
+    let wide = Array::decimals(&[1], 38, 0).unwrap();
+    assert_eq!(wrapping_sum(&wide), unsupported("d:38,0"));
+    let less = |left, right| compare(left, Comparison::Less, right);
+    assert_eq!(less(&bytes, &bytes), unsupported("z"));
+    let number = Array::numbers(&[1]);
+    assert_eq!(less(&number, &bytes), unsupported("z"));
+    assert_eq!(less(&bytes, &number), unsupported("z"));
+}
+
+#[test]
+fn floats_are_refused_with_what_to_call() {
+    let told = |array: &Array<'_>| {
+        assert!(message(equal(array, array))
+            .ends_with(": floats are compared by equal_with with floats_by_bits"));
+    };
+    let share = Array::numbers(&[0.5_f32]);
+    assert_eq!(equal(&share, &share), unsupported("f"));
+    let number = Array::numbers(&[1]);
+    assert_eq!(equal(&number, &share), unsupported("f"));
+    assert_eq!(equal(&share, &number), unsupported("f"));
+    told(&share);
+    told(&Array::list(&[0, 1], share.clone()).unwrap());
+    let rows = [("id", Array::numbers(&[1])), ("share", share)];
+    told(&Array::structs(1, rows).unwrap());
+}
+
+#[test]
+fn precisions_of_decimals() {
+    assert!(Array::decimals(&[1], 1, 0).is_ok() && Array::decimals(&[1], 38, -3).is_ok());
+    for precision in [0, 39, u8::MAX] {
+        assert_eq!(
+            message(Array::decimals(&[1], precision, 2)),
+            format!("decimals of 128 bits have a precision of 1 to 38, not {precision}")
+        );
+    }
 }
 
 #[test]
@@ -337,17 +399,22 @@ fn each_error_has_a_message() {
             number: 128,
             format: text("c"),
         },
-        Error::OutOfRange,
+        Error::OutOfUniqueRange { range: 0..=1 },
         Error::BadRange {
             least: 1,
             greatest: 0,
         },
-        Error::Length {
+        Error::WrongLength {
             what: text("bits"),
             has: 1,
             needs: 2,
         },
-        Error::OutOfBounds {
+        Error::OffsetsPastEnd {
+            end: 9,
+            what: "bytes",
+            has: 3,
+        },
+        Error::SliceOutOfBounds {
             first: 0,
             rows: 2,
             len: 1,
@@ -358,10 +425,12 @@ fn each_error_has_a_message() {
             format: text("tdm"),
             array: text("i"),
         },
+        Error::BadPrecision { precision: 39 },
         Error::BadName { name: text("a\0b") },
         Error::TooDeep,
         Error::TooManyTypes,
-        Error::Unsupported,
+        Error::Unsupported { format: text("g") },
+        Error::ForeignValidity,
         Error::BadArray,
         Error::BadStructs,
         Error::BadArgument,
@@ -376,5 +445,5 @@ fn each_error_has_a_message() {
         Error::Unknown(99).to_string(),
         "unknown status 99 of libdunkelva"
     );
-    let _: Box<dyn std::error::Error + Send + Sync> = Error::Unsupported.into();
+    let _: Box<dyn std::error::Error + Send + Sync> = Error::NoMemory.into();
 }

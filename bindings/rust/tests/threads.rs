@@ -1,6 +1,6 @@
 //! Arrays in threads.
 
-use dunkelva::{equal, sum, Array, Bitmap, Error, Mask};
+use dunkelva::{equal, wrapping_sum, Array, BitBuffer, Bitmap, Buffer, Error, Mask};
 use std::thread;
 
 fn is_shared<T: Send + Sync>() {}
@@ -9,6 +9,8 @@ fn is_shared<T: Send + Sync>() {}
 fn types_can_be_sent_and_shared() {
     is_shared::<Array<'_>>();
     is_shared::<Bitmap<'_>>();
+    is_shared::<BitBuffer<'_>>();
+    is_shared::<Buffer<'_, i64>>();
     is_shared::<Mask>();
     is_shared::<Error>();
 }
@@ -20,7 +22,7 @@ fn eight_threads_use_the_same_arrays() {
         .iter()
         .map(|it| format!("word {}", it % 1000))
         .collect();
-    let words = Array::from_texts(words.iter().map(|it| Some(it.as_str()))).unwrap();
+    let words: Array<'_> = words.iter().collect();
     let fields = [("number", Array::numbers(&numbers)), ("word", words)];
     let rows = Array::structs(numbers.len(), fields).unwrap();
     let numbers = Array::numbers(&numbers);
@@ -28,7 +30,7 @@ fn eight_threads_use_the_same_arrays() {
         for _ in 0..8 {
             scope.spawn(|| {
                 assert!(equal(&rows, &rows).unwrap().all());
-                assert_eq!(sum(&numbers), Ok(Some(49_999 * 25_000)));
+                assert_eq!(wrapping_sum(&numbers), Ok(Some(49_999 * 25_000)));
             });
         }
     });

@@ -45,14 +45,16 @@ fn refused_rows_leave_a_state_as_it_was() -> Result<(), Error> {
     let mut seen = Unique::new(0..=9)?;
     seen.append(&Array::numbers(&[4]))?;
     let before = seen.clone();
+    let outside = Error::OutOfUniqueRange { range: 0..=9 };
+    assert_eq!(outside.to_string(), "a row lies outside of the range 0..=9");
     for row in [-1, 10, i32::MAX] {
         let rows: Array<'_> = [Some(5), None, Some(row)].into_iter().collect();
-        assert_eq!(seen.append(&rows), Err(Error::OutOfRange));
+        assert_eq!(seen.append(&rows), Err(outside.clone()));
         assert_eq!(seen, before);
     }
     assert_eq!(
         seen.append(&Array::numbers(&[0.5])),
-        Err(Error::Unsupported)
+        Err(Error::Unsupported { format: "g".into() })
     );
     let others = Error::RangeMismatch {
         left: 0..=9,
@@ -83,6 +85,14 @@ fn ranges_that_are_refused() {
         bad(i128::MIN, i128::MAX)
     );
     assert_eq!(Unique::new(0..=u64::MAX / 4), Err(Error::NoMemory));
+    let empty = Error::BadRange {
+        least: 5,
+        greatest: 3,
+    };
+    assert_eq!(
+        empty.to_string(),
+        "the range 5..=3 is empty, or has 2^64 - 1 numbers or more"
+    );
 }
 
 #[test]

@@ -5,8 +5,8 @@ mod common;
 use common::digits;
 use dunkelva::{
     compare, compare_number, count_ones, equal, equal_counted, equal_with, is_null, leading_zeros,
-    max, min, min_max, not_equal, reduce_bits, sum, trailing_ones, version, Array, BitOperation,
-    Bitmap, Comparison, EqualOptions, Error,
+    max, min, min_max, not_equal, reduce_bits, trailing_ones, version, wrapping_sum, Array,
+    BitOperation, Bitmap, Comparison, EqualOptions, Error,
 };
 
 const FLOATS: EqualOptions = EqualOptions {
@@ -43,8 +43,8 @@ fn numbers_of_each_type() -> Result<(), Error> {
     let others = [i128::MAX, i128::MIN, 0, 1];
     assert_eq!(
         same(
-            &Array::decimals(&decimals, 38, 2),
-            &Array::decimals(&others, 38, 2)
+            &Array::decimals(&decimals, 38, 2)?,
+            &Array::decimals(&others, 38, 2)?
         )?,
         "1101"
     );
@@ -68,7 +68,7 @@ fn null_is_equal_to_null_alone() -> Result<(), Error> {
 #[test]
 fn validities_begin_at_any_bit() -> Result<(), Error> {
     for first in 0..20 {
-        // the third of four rows is null; bits before and behind are 1
+        // the third of four rows is null; bits before and after are 1
         let bytes = (!(0b100_u32 << first)).to_le_bytes();
         let present = Bitmap::new(&bytes, first, 4)?;
         let array = Array::numbers(&[5_u8, 6, 7, 8]).with_validity(present)?;
@@ -90,7 +90,7 @@ fn validities_begin_at_any_bit() -> Result<(), Error> {
 #[test]
 fn texts_and_byte_strings() -> Result<(), Error> {
     let texts = Array::from_texts([Some(""), Some("ab"), None, Some("c")])?;
-    // "xab" begins behind a byte, and row 2 has a text under its null
+    // "xab" begins after a byte, and row 2 has a text under its null
     let lent = Array::texts(&[1, 1, 3, 4, 5], b"xab?d")?;
     let lent = lent.with_validity(Bitmap::new(&[0b1011], 0, 4)?)?;
     assert_eq!(same(&texts, &lent)?, "1110");
@@ -144,7 +144,7 @@ fn views_of_texts_and_byte_strings() -> Result<(), Error> {
     let bytes = Array::binary_views(&views, &buffers).with_validity(present)?;
     assert_eq!(same(&bytes, &bytes)?, "11111");
     assert!(have_other_types(&bytes, &lent));
-    // a view that leads behind its buffer
+    // a view that leads past the end of its buffer
     let mut others = views;
     others[3] = number(*b"\x0d\0\0\0thir\x01\0\0\0\x03\0\0\0");
     let bad = Array::text_views(&others, &buffers).with_validity(present)?;
@@ -173,7 +173,8 @@ fn texts_are_checked_if_asked() -> Result<(), Error> {
 fn floats_are_compared_by_their_bits_if_asked() -> Result<(), Error> {
     let left = Array::numbers(&[1.5, f64::NAN, 0.0]);
     let right = Array::numbers(&[1.5, f64::NAN, -0.0]);
-    assert_eq!(same(&left, &right), Err(Error::Unsupported));
+    let format = "g".into();
+    assert_eq!(same(&left, &right), Err(Error::Unsupported { format }));
     assert_eq!(digits(&equal_with(&left, &right, FLOATS)?), "110");
     let halves = Array::numbers(&[0.5_f32]);
     assert_eq!(digits(&equal_with(&halves, &halves, FLOATS)?), "1");
@@ -290,7 +291,7 @@ fn reductions() -> Result<(), Error> {
     let rows: Array<'_> = [Some(100_i8), None, Some(100), Some(-3)]
         .into_iter()
         .collect();
-    assert_eq!(sum(&rows)?, Some(-59)); // 197 - 256
+    assert_eq!(wrapping_sum(&rows)?, Some(-59)); // 197 - 256
     assert_eq!(min_max(&rows)?, Some((-3, 100)));
     assert_eq!((min(&rows)?, max(&rows)?), (Some(-3), Some(100)));
     // 100 is 0b0110_0100, -3 is 0b1111_1101
@@ -298,12 +299,12 @@ fn reductions() -> Result<(), Error> {
     assert_eq!(reduce_bits(&rows, BitOperation::Or)?, Some(-3));
     assert_eq!(reduce_bits(&rows, BitOperation::Xor)?, Some(-3));
     let greatest = Array::numbers(&[u64::MAX, 0]);
-    assert_eq!(sum(&greatest)?, Some(i128::from(u64::MAX)));
+    assert_eq!(wrapping_sum(&greatest)?, Some(i128::from(u64::MAX)));
     assert_eq!(min_max(&greatest)?, Some((0, i128::from(u64::MAX))));
     let none: Array<'_> = [None::<i64>, None].into_iter().collect();
     assert_eq!(
         (
-            sum(&none)?,
+            wrapping_sum(&none)?,
             min_max(&none)?,
             reduce_bits(&none, BitOperation::Or)?
         ),

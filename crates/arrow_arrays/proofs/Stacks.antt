@@ -271,7 +271,7 @@ made-refused count was shapes s taken stack left r top are honest p ps cs same f
     honest-more (CanFill s (take p.children cs)) (IsStepGood p cs) r (honest (take p.children cs) both.0)
     (λ good. (parts.1.fills (take p.children cs)).0 good.rows)
 
--- part j is good before the columns of those behind it
+-- part j is good before the columns of those after it
 good-at : (parts : List Part) (j : ℕ) (d : Part) → j < length parts → AllGood parts → GoodPart (get_or parts j d) (columns_of (drop (suc j) parts))
 good-at [] j d low all = absurd (omega arith)
 good-at (p ∷ parts) zero d low all = all.0

@@ -69,7 +69,7 @@ between-more bytes more (Some from) (Some to) bounds =
     let end : to - from ≤ length (drop from bytes) = omega (arith, bounds.0, bounds.1, length-drop from bytes) in
     ap (take (to - from)) (drop-append-le from bytes more begin) ∙ take-append-le (to - from) (drop from bytes) more end
 
--- what was appended lies behind the last place
+-- what was appended lies past the last place
 between-last : (bytes more : List ℕ) → between (bytes ++ more) (Some (length bytes)) (Some (length (bytes ++ more))) ≡ more
 between-last bytes more =
     let size : length (bytes ++ more) - length bytes ≡ length more = omega (arith, length-append bytes more) in

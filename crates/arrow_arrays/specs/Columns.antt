@@ -234,7 +234,7 @@ column_of (Some k) p cs = column_with p (kind_in k p cs) (stored_in k p cs) (lea
 abbrev pub stacked : Part → List Column → List Column
 stacked p cs = column_of (kind_number p.kind) p (take p.children cs) ∷ drop p.children cs
 
--- the columns that parts in pre-order stand for: each part takes its children from those behind it
+-- the columns that parts in pre-order stand for: each part takes its children from those after it
 abbrev pub columns_of : List Part → List Column
 columns_of [] = []
 columns_of (p ∷ rest) = stacked p (columns_of rest)

@@ -44,7 +44,7 @@ pub record AreRows (p : Part) (n : ℕ) (all : List (Option ℕ)) : Type 0 where
 abbrev pub GoodStrings : List (Option ℕ) → Part → Type 0
 GoodStrings all p = AreRows p (length p.u8s.now) all
 
--- byte strings between places, of which each alone is UTF-8
+-- byte strings between places, each of them UTF-8
 pub record AreTextRows (p : Part) (all : List (Option ℕ)) : Type 0 where
   pub rows : GoodStrings all p
   pub texts : All IsUtf8 (strings_between all p.u8s.now)
@@ -131,7 +131,7 @@ pub record GoodPart (p : Part) (cs : List Column) : Type 0 where
   pub children : p.children ≤ length cs
   pub rows : GoodRows (kind_number p.kind) p (take p.children cs)
 
--- each part is good before the columns of those behind it
+-- each part is good before the columns of those after it
 abbrev pub AllGood : List Part → Type 0
 AllGood [] = ⊤
 AllGood (p ∷ rest) = GoodPart p (columns_of rest) × AllGood rest

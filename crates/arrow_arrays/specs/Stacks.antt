@@ -43,7 +43,7 @@ Stacks count was_shapes shapes was stack was_names names =
     × AllStand (reverse stack) (stacked p cs)
     × AllNamed (reverse names) (drop p.children cs)
 
--- the last part is good before the columns of the stack, but for its name
+-- the last part is good before the columns of the stack, except for its name
 pub record IsStepGood (p : Part) (cs : List Column) : Type 0 where
   pub children : p.children ≤ length cs
   pub rows : GoodRows (kind_number p.kind) p (take p.children cs)
@@ -55,7 +55,7 @@ IsRefusedStep count was_shapes was r =
     → AllFit (ps ++ p ∷ []) was_shapes → AllStand (reverse was) cs
     → IsHonest (IsStepGood p cs) r
 
--- the last part was good before the columns of the stack, but for its name
+-- the last part was good before the columns of the stack, except for its name
 abbrev pub WasGood : ℕ → List Shape → List AnyArray → Type 0
 WasGood count was_shapes was =
     (p : Part) (ps : List Part) (cs : List Column) → p.children ≡ count

@@ -1,6 +1,6 @@
 -- Views of a part, and the byte strings that they lead to (the Arrow layout). The view 1 0 0 0 97
 -- and eleven zeros leads to the row `a`; with a 1 among these zeros it leads to none
--- (`LeadsToRow`). Of a part with two rows, of which only the first is present, this view and
+-- (`LeadsToRow`). Of a part with two rows, the first one present and the second null, this view and
 -- sixteen other bytes are views (`AreViews`), and the byte 97 between the places 0, 1, 1 is what is
 -- gathered of them (`AreGathered`).
 use Rattle.std.specs.Prelude.{◌≡◌, ◌+◌, ◌*◌, ◌^◌, ◌<◌, ℕ, Bool, true, false, List, [], Option, Some}
@@ -33,7 +33,7 @@ pub record NotNegative (v : List ℕ) : Type 0 where
   pub offset : view_offset v < 2 ^ 31
 
 -- a view leads to a row: one of more than 12 bytes lies in its buffer and begins with the prefix, a
--- shorter one has zeros behind it
+-- shorter one has zeros after it
 pub record LeadsToRow (buffers : List (List ℕ)) (v : List ℕ) : Type 0 where
   pub good : GoodView buffers v
   pub long : 12 < view_len v → NotNegative v

@@ -177,7 +177,7 @@ fn step(
     Ok(())
 }
 
-/// Puts the shape of a part behind others.
+/// Puts the shape of a part after others.
 fn put_shape(alloc: Global, part: &Part<'_>, shapes: &mut Vec<Shape>) -> Result<(), Refused>
     ensures put { OnOk result
         ((ps : List Part) → AllFit ps shapes.old.items

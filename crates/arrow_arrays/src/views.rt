@@ -52,7 +52,7 @@ fn is_not_negative(view: &View) -> bool
 }
 
 /// Returns the `len` bytes of a row that lies in its view, or None if other bytes than zeros are
-/// behind it.
+/// after it.
 #[inline(always)]
 fn short_row(bytes: &[u8], len: usize) -> Option<&[u8]>
     requires size { length bytes.now ≡ 16 }
@@ -209,8 +209,8 @@ pub fn viewed_strings(alloc: Global, part: &Part<'_>) -> Result<BinaryArray<i64>
     Ok(array)
 }
 
-/// Returns the array of a part's rows, which are texts that views lead to. The error is also
-/// `Parts` if the text of a present row is not UTF-8.
+/// Returns the array of a part's rows, which are texts that views lead to. The error is that of
+/// `viewed_strings`, or `Parts` if the text of a present row is not UTF-8.
 #[tactic(auto, using(crate::proofs::GatheredRows::arrays))]
 pub fn viewed_texts(alloc: Global, part: &Part<'_>) -> Result<Utf8Array<i64>, Refused>
     ensures made { IfOk result (IsViewed part.now) }

@@ -19,7 +19,7 @@ pub record AreAlike (left right : Column) : Type 0 where
   pub one_length : left.len ≡ right.len
 
 -- of two columns of one type and length a bit for each row, set exactly if the two rows are the
--- same tree, and zeros behind the last row
+-- same tree, and zeros past the last row
 pub record AreEqualRows (left right : Column) (words : List ℕ) : Type 0 where
   pub one_type : left.kind ≡ right.kind
   pub one_length : left.len ≡ right.len

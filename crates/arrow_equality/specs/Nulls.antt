@@ -16,7 +16,7 @@ use Rattle.arrow_parts.specs.declared.refused.Refused.TheVariants.{Parts, Types,
 abbrev pub null_bits : (ℕ → Row) → ℕ → List Bool
 null_bits row n = first_of (λ i. is_null (row i)) n
 
--- of a column a bit for each row, set exactly if the row is null, zeros behind the last row, and
+-- of a column a bit for each row, set exactly if the row is null, zeros past the last row, and
 -- the number of null rows
 pub record AreNullRows (c : Column) (words : List ℕ) (count : ℕ) : Type 0 where
   pub room : c.len ≤ 64 * length words

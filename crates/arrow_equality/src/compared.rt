@@ -43,7 +43,7 @@ pub fn compare(alloc: Global, left: &AnyArray, right: &AnyArray) -> Result<Compa
     })
 }
 
-/// Writes the bits into words, from the lowest bit of the first word on, with zeros behind them,
+/// Writes the bits into words, from the lowest bit of the first word on, with zeros after them,
 /// and the number of comparisons into the first word of `comparisons`. The error is `Room` if there
 /// are too few words; they are then unchanged.
 pub fn write(compared: &Compared, out: &mut [u64], comparisons: &mut [u64]) -> Result<(), Refused>

@@ -3,6 +3,7 @@
 ghost use Rattle.std.specs.Prelude.{◌≡◌, IfErr, IfOk, OnErr, OnOk};
 ghost use Rattle.polars_arrays_nested.specs.GoodParts.{IsGood};
 ghost use Rattle.arrow_arrays.specs.Columns.{rows_of_parts};
+ghost use Rattle.arrow_arrays.specs.Good.{AreGoodParts};
 ghost use Rattle.arrow_equality.specs.Compared.{AreCompared, IsRefusedPair};
 ghost use Rattle.arrow_equality.specs.Equal.{AreEqualIn, IsComparison, IsCountIn};
 ghost use Rattle.arrow_equality.specs.Equal.{IsRefusedComparison, IsTrueRefusal};
@@ -35,6 +36,7 @@ fn compare_arrays(alloc: Global, left: &AnyArray, right: &AnyArray) -> Result<Co
 fn compare_parts(alloc: Global, left: &[Part<'_>], right: &[Part<'_>]) -> Result<Compared, Refused>
     ensures compared { IfOk result
         (IsComparison (rows_of_parts left.now) (rows_of_parts right.now)) }
+    ensures good { IfOk result (λ _. AreGoodParts left.now × AreGoodParts right.now) }
     ensures refused { IfErr result (IsRefusedComparison left.now right.now) }
 {
     let left = build(alloc, left)?;
@@ -43,7 +45,7 @@ fn compare_parts(alloc: Global, left: &[Part<'_>], right: &[Part<'_>]) -> Result
 }
 
 /// Sets bit `i` of `out` if rows `i` of two lent arrays are the same tree, where null is the same
-/// as null alone, and all bits behind the last row to 0. The first of `comparisons` becomes the
+/// as null alone, and all bits past the last row to 0. The first of `comparisons` becomes the
 /// number of leaves that were compared, at most the greatest `u64`.
 ///
 /// On an error both slices are unchanged. It is `Parts` if one of the arrays cannot be made,
@@ -58,6 +60,7 @@ pub fn equal_rows(
 ) -> Result<(), Refused>
     ensures same { OnOk result (AreEqualIn left.now right.now out.new) }
     ensures count { OnOk result (IsCountIn left.now right.now comparisons.new) }
+    ensures good { OnOk result (AreGoodParts left.now × AreGoodParts right.now) }
     ensures refused { IfErr result (IsTrueRefusal left.now right.now out.old comparisons.old) }
     ensures kept { OnErr result (out.new ≡ out.old) }
     ensures count_kept { OnErr result (comparisons.new ≡ comparisons.old) }

@@ -39,6 +39,7 @@ fn nulls_of(alloc: Global, array: &AnyArray) -> Result<Bitmap, ComputeError>
 fn part_nulls(alloc: Global, parts: &[Part<'_>]) -> Result<Bitmap, Refused>
     ensures bits { IfOk result (λ bits. bits
         ≡ null_bits (rows_of_parts parts.now).row (rows_of_parts parts.now).len) }
+    ensures good { IfOk result (λ _. AreGoodParts parts.now) }
     ensures refused { IfErr result (IsHonest (AreGoodParts parts.now)) }
 {
     let array = build(alloc, parts)?;
@@ -46,7 +47,7 @@ fn part_nulls(alloc: Global, parts: &[Part<'_>]) -> Result<Bitmap, Refused>
     Ok(bits)
 }
 
-/// Sets bit `i` of `out` if row `i` of a lent array is null, and all bits behind the last row to 0.
+/// Sets bit `i` of `out` if row `i` of a lent array is null, and all bits past the last row to 0.
 /// `count` becomes the number of null rows.
 ///
 /// On an error both are unchanged. It is `Parts` if the array cannot be made, `Room` if `out` has
@@ -58,6 +59,7 @@ pub fn null_rows(
     count: &mut u64,
 ) -> Result<(), Refused>
     ensures written { OnOk result (AreNullIn parts.now out.new count.new) }
+    ensures good { OnOk result (AreGoodParts parts.now) }
     ensures kept { OnErr result (out.new ≡ out.old) }
     ensures count_kept { OnErr result (count.new ≡ count.old) }
     ensures refused { IfErr result (IsTrueNullRefusal (length out.old) parts.now) }

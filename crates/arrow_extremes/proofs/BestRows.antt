@@ -65,7 +65,7 @@ module _ (better : Row → Row → Bool) (law : Prefers Int better) where
   unbeaten-more m x rows e unbeaten zero low some = e some
   unbeaten-more m x rows e unbeaten (suc k) low some = unbeaten k (omega arith) some
 
-  -- the best row is found behind a row that is null, or than which it is better
+  -- the best row is found after a row that is null, or than which it is better
   found-behind : (x : Row) (b : ℤ) (rows : List Row) → (x ≢ Null → better (Int b) x ≡ true) → (x ≢ Null → better x (Int b) ≡ false) → FindsBest better rows (Int b) → FindsBest better (x ∷ rows) (Int b)
   found-behind x b rows e not found = record {
     place = suc found.place;

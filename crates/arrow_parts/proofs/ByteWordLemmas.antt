@@ -26,7 +26,7 @@ zero_bit i = ap (λ b. eqb b 1) (bit_at_above 0 0 i (omega arith) (omega arith))
 pub bytes-none : (bytes : List ℕ) (at : ℕ) → IsBytes bytes at 0 0
 bytes-none bytes at = record { bits = λ i low. absurd (omega arith); rest = λ i past low. zero_bit i }
 
--- a bit of the byte that is put behind `count` others
+-- a bit of the byte that is put after `count` others
 put_bit : (bytes : List ℕ) (at count word new i : ℕ) → count < 8 → IsBytes bytes at count word → ((j : ℕ) → j < 64 - 8 * count → is_bit new (8 * count + j) ≡ (is_bit word (8 * count + j) || is_bit (get_or bytes (at + count) 0) j)) → 8 * count ≤ i → i < 64 → is_bit new i ≡ is_bit (get_or bytes (at + count) 0) (i - 8 * count)
 put_bit bytes at count word new i few was above past low =
     let place : 8 * count + (i - 8 * count) ≡ i = omega arith in

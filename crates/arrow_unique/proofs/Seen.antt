@@ -136,7 +136,7 @@ module _ (least : ℤ) (n : ℕ) (words : List ℕ) where
         let more = length-more least n words p m true place-in (sym slot-here ∙ slot-bit least n words p place-in) h.place in
         omega (arith, more, members-le least n words (p + 1) (omega (arith, place-in)), ap length (set-is least n words flag), room)
 
-    -- and behind it
+    -- and after it
     pub left-next : bit_and rest (rest - 1) < 2 ^ 64 → IsLeft least n words k (bit_and rest (rest - 1))
     left-next small =
         let above = next-above rest some fits small in
@@ -162,13 +162,13 @@ module _ (least : ℤ) (n : ℕ) (words : List ℕ) where
           listed = listed-more least n words p m low true old out place-in bit h.place (λ seen. room) is h.listed;
         }
 
-  -- behind word k
+  -- after word k
   pub listed-end : (old : List ℕ) (k rest m : ℕ) (out : List ℕ) → rest ≡ 0 → IsListed least n words old (64 * k + trailing_zeros w64 rest) m out → IsListed least n words old (64 * (k + 1)) m out
   listed-end old k rest m out none h =
       let at : 64 * (k + 1) ≡ 64 * k + trailing_zeros w64 rest = omega (arith, ap (trailing_zeros w64) none ∙ no-ones) in
       moved old (64 * k + trailing_zeros w64 rest) (64 * (k + 1)) m out (ap (members least (slots least n words)) at) h
 
-  -- behind all words
+  -- after all words
   pub listed-all : (old : List ℕ) (p m flag : ℕ) (out : List ℕ) → n ≤ p → IsListed least n words old p m out → out ≡ map low_word (set_of (state_in least n words flag)) ++ drop (length (set_of (state_in least n words flag))) old
   listed-all old p m flag out le h =
       let seen : members least (slots least n words) p ≡ set_of (state_in least n words flag) = skip-to n p le (λ i from to. slot-past i from) ∙ sym (set-is least n words flag) in

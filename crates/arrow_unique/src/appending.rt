@@ -41,7 +41,7 @@ fn lies_between<T: UniqueNumber>(least: T, greatest: T, number: T) -> bool
     LessOrEqual.compare(least, number) & LessOrEqual.compare(number, greatest)
 }
 
-// Returns the last number of a range, or of the type if the range goes on behind it.
+// Returns the last number of a range, or of the type if the range goes on past it.
 fn last_number<T: UniqueNumber>(span: &Span<T>) -> T
     requires { 0 < span.now.count }
     ensures { (m : ℤ) → m ≤ℤ T.high → (HasSlot (T.value span.now.least) span.now.count (Int m)

@@ -37,8 +37,8 @@ fn low_word_at(least: i128, i: usize) -> u64
     (number.cast_unsigned() & 0xFFFF_FFFF_FFFF_FFFF) as u64
 }
 
-/// Writes to `out`, ascending, those of the `count` numbers from `least` on that were seen. A number
-/// is written as the lower 64 bits of its two's complement.
+/// Writes to `out`, ascending, those of the `count` numbers from `least` on that were seen. A
+/// number is written as the lower 64 bits of its two's complement.
 pub fn list(least: i128, count: usize, words: &[u64], out: &mut [u64])
     requires numbers { (least +ℤ pos count) ≤ℤ pos (2 ^ 127) }
     requires bits { count ≤ 64 * length words.now }

@@ -29,8 +29,8 @@ fn join_words(words: &mut [u64], others: &[u64], count: usize)
 }
 
 /// Merges a state, `others` and `other_flag`, into `words` and `flag`. Both are states of the same
-/// `count` numbers: a bit is set then if either had seen its number, and the flag if either had seen
-/// a null.
+/// `count` numbers: a bit is set then if either had seen its number, and the flag if either had
+/// seen a null.
 pub fn merge(count: usize, words: &mut [u64], flag: &mut u64, others: &[u64], other_flag: u64)
     requires { count ≤ 64 * length words.old }
     ensures { (least : ℤ) → Holds least count words.old words.new flag.new

@@ -39,7 +39,8 @@ macro_rules! at_integer_type {
     ($number:expr, $called:ident $arguments:tt) => {
         at_type!(
             $number,
-            NumberType: I8 = i8, I16 = i16, I32 = i32, I64 = i64, U8 = u8, U16 = u16, U32 = u32, U64 = u64;
+            NumberType: I8 = i8, I16 = i16, I32 = i32, I64 = i64, U8 = u8, U16 = u16, U32 = u32,
+                U64 = u64;
             $called $arguments
         )
     };

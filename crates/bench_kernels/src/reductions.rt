@@ -88,7 +88,8 @@ fn time_clones<T: BitNumber + WrappingSum + AsPrimitive<u64>>(
 ) -> u64 {
     by_number!(
         kernel,
-        ReductionKernel: Sum ReduceAnd ReduceOr ReduceXor Min Max MinMax CountOnes LeadingZeros TrailingZeros,
+        ReductionKernel: Sum ReduceAnd ReduceOr ReduceXor Min Max MinMax CountOnes LeadingZeros
+            TrailingZeros,
         |chosen| repeat(alloc, chosen, arrays, repeats),
         0
     )

@@ -38,12 +38,12 @@ pub plain_bytes : (colored : Bool) (ls : List (List ℕ)) → lines_bytes colore
 plain_bytes colored [] = refl
 plain_bytes colored (l ∷ ls) = ap₂ (λ t r. (t ++ codes "\n") ++ r) (append-nil (encode_utf8_all l)) (plain_bytes colored ls)
 
--- lines behind others
+-- lines after others
 pub lines_more : (colored : Bool) (xs ys : List (List Piece)) → lines_bytes colored (xs ++ ys) ≡ lines_bytes colored xs ++ lines_bytes colored ys
 lines_more colored [] ys = refl
 lines_more colored (x ∷ xs) ys = ap (λ l. line_bytes colored x ++ l) (lines_more colored xs ys) ∙ sym (append_assoc (line_bytes colored x) (lines_bytes colored xs) (lines_bytes colored ys))
 
--- lines before, in and behind a table
+-- lines before, in and after a table
 pub sheet_bytes : (colored : Bool) (out y z all : List ℕ) (before behind : List (List ℕ)) (rows : List (List Piece)) → y ≡ out ++ texts_bytes before → z ≡ y ++ lines_bytes colored rows
     → all ≡ z ++ texts_bytes behind → all ≡ out ++ lines_bytes colored (map plain_line before ++ rows ++ map plain_line behind)
 sheet_bytes colored out y z all before behind rows a b c =

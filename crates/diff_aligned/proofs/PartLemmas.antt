@@ -43,7 +43,7 @@ pub pair_word_written : {A : Type 0} (all now after : List (List ℕ)) (ms : Lis
 pair_word_written all now after ms i m within is e a =
     one_written all now after (pair_text m.0.now (value_view m.1) ∷ []) _ (ap (λ l. now ++ pair_words (members_view l)) (sym (first_of_rest ms i m within is)) ∙ e) a
 
--- behind the last one nothing is still to be written
+-- after the last one nothing is still to be written
 pub all_pairs : {A : Type 0} (all now gap : List ℕ) (ms : List (Pair A)) (i : ℕ) → length ms ≤ i → now ++ pairs_after gap (members_view (drop i ms)) ≡ all → now ≡ all
 all_pairs all now gap ms i past e = sym (append-nil now) ∙ ap (λ l. now ++ pairs_after gap (members_view l)) (sym (drop_of_length-le ms past)) ∙ e
 

@@ -2,7 +2,7 @@
 use Rattle.std.proofs.Common.{◌≡◌, List, ◌++◌, ap, ◌∙◌}
 use Rattle.std.proofs.lemmas.List.{append_assoc}
 
--- a text more behind what was appended
+-- a text more after what was appended
 pub appended : {X : Type 0} (out a b y z : List X) → y ≡ out ++ a → z ≡ y ++ b → z ≡ out ++ (a ++ b)
 appended out a b y z e f = f ∙ ap (λ l. l ++ b) e ∙ append_assoc out a b
 

@@ -35,7 +35,7 @@ head_by t Removed j = []
 head_by t Added j = []
 head_by t Counts j = []
 
--- the texts that a line adds behind the rows
+-- the texts that a line adds after the rows
 abbrev pub tail_by : Sheet → Kind → Json → List (List ℕ)
 tail_by t Column j = []
 tail_by t Changed j = []

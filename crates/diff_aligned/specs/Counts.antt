@@ -15,7 +15,7 @@ use Rattle.diff_aligned.specs.Shown.{text_of}
 use Rattle.diff_aligned.specs.Texts.{name_text, number_text, pair_text}
 use Rattle.diff_lines.specs.Parts.{number_at, string_at}
 
--- a count and the text behind it
+-- a count and the text after it
 abbrev pub count_word : List ℕ → List ℕ → Json → List ℕ
 count_word name counted j = number_text name j ++ counted
 

@@ -37,7 +37,7 @@ line_bytes colored pieces = flat_map (piece_bytes colored) pieces ++ codes "\n"
 abbrev pub lines_bytes : Bool → List (List Piece) → List ℕ
 lines_bytes colored = flat_map (line_bytes colored)
 
--- the pieces behind the key of a row that changed: its part and the two sides
+-- the pieces after the key of a row that changed: its part and the two sides
 unfoldable pub change_pieces : Rooms → Cells → List Piece
 change_pieces s r =
     plain (filler s.key (cut s.key r.key) ++ codes "  " ++ padded s.part r.part ++ codes "  ") ∷

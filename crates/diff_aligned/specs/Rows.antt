@@ -13,7 +13,7 @@ use Rattle.diff_aligned.specs.declared.rows.Mark.TheVariants.{Changed, Again}
 use Rattle.diff_aligned.specs.Texts.{name_text, number_text, pairs_text, row_name, side_text}
 use Rattle.diff_lines.specs.Parts.{string_at}
 
--- the content of a row: behind the key either a note, or a part and its two sides
+-- the content of a row: after the key either a note, or a part and its two sides
 pub record Cells : Type 0 where
   pub mark : Mark
   pub key : List ℕ

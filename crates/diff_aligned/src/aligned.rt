@@ -30,7 +30,7 @@ pub struct Sheet<'a> {
     pub right: &'a str,
 }
 
-/// Appends what lines add to the report: texts before the rows, rows, and texts behind them.
+/// Appends what lines add to the report: texts before the rows, rows, and texts after them.
 fn push_lines(
     alloc: Global,
     head: &mut Vec<u8>,
@@ -80,7 +80,7 @@ fn push_text(
     Ok(())
 }
 
-/// Appends the lines of rows.
+/// Appends rows as lines, in columns that fit the width of the sheet.
 #[tactic(auto, unfolding(crate::specs::Aligned::row_lines))]
 fn push_rows(
     alloc: Global,

@@ -32,7 +32,7 @@ fn push_ascii_word(
     Ok(())
 }
 
-/// Appends a name as a word.
+/// Appends a name to `words`.
 fn push_name_word(alloc: Global, words: &mut Vec<Vec<char>>, name: &str) -> Result<(), AllocError>
     ensures { OnOk result (map (λ v. v.items) words.new.items
         ≡ map (λ v. v.items) words.old.items ++ name_text name.now ∷ []) }
@@ -43,7 +43,7 @@ fn push_name_word(alloc: Global, words: &mut Vec<Vec<char>>, name: &str) -> Resu
     Ok(())
 }
 
-/// Appends a count and the text behind it, as one word.
+/// Appends a count and the text after it, as one word.
 fn push_count(
     alloc: Global,
     words: &mut Vec<Vec<char>>,
@@ -98,7 +98,7 @@ fn push_kind_words(
     Ok(())
 }
 
-/// Appends a member as a word.
+/// Appends a member to `words`, as `name=value`.
 fn push_pair_word(
     alloc: Global,
     words: &mut Vec<Vec<char>>,
@@ -115,7 +115,7 @@ fn push_pair_word(
     Ok(())
 }
 
-/// Appends members, each as a word.
+/// Appends each of the members to `words`, as `name=value`.
 fn push_pair_words(
     alloc: Global,
     words: &mut Vec<Vec<char>>,

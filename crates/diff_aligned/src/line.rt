@@ -16,7 +16,7 @@ use diff_lines::line::{Kind, read_line};
 use json::{Scratch, Value};
 use std::alloc::{AllocError, Global};
 
-/// Appends what a line of a kind adds to the report: texts before the rows, rows, or texts behind
+/// Appends what a line of a kind adds to the report: texts before the rows, rows, or texts after
 /// them.
 fn push_by_kind(
     alloc: Global,
@@ -44,9 +44,10 @@ fn push_by_kind(
     }
 }
 
-/// Appends what a line adds to the report. `scratch` is kept from line to line.
+/// Reads a JSON line of a report, and appends what it adds to the head, to the rows or to the tail.
+/// `scratch` is reused from line to line.
 ///
-/// A failure may leave some of it written.
+/// A failure may leave some of it appended.
 pub(crate) fn push_line(
     alloc: Global,
     head: &mut Vec<u8>,

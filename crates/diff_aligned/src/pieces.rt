@@ -91,7 +91,7 @@ fn arrow_of(alloc: Global, left: &[char], room: usize) -> Result<Vec<char>, Allo
     Ok(text)
 }
 
-/// Appends the pieces behind the key of a row that changed: its part and the two sides.
+/// Appends the pieces after the key of a row that changed: its part and the two sides.
 #[tactic(auto, unfolding(crate::specs::Pieces::change_pieces))]
 fn push_change(
     alloc: Global,
@@ -115,7 +115,7 @@ fn push_change(
     Ok(())
 }
 
-/// Returns the key of a row behind its mark.
+/// Returns the key of a row after its mark.
 fn marked_key(alloc: Global, mark: &[u8], rooms: &Rooms, row: &Row) -> Result<Vec<char>, AllocError>
     ensures { IfOk result (λ v. v.items ≡ mark.now ++ cut rooms.now.key row.now.key.items) }
 {

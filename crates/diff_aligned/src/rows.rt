@@ -28,7 +28,7 @@ pub(crate) enum Mark {
     Added,
 }
 
-/// A row of a report. Behind its key stands either a note, or a part and its two sides.
+/// A row of a report. After its key stands either a note, or a part and its two sides.
 #[derive(Drop)]
 pub(crate) struct Row {
     pub(crate) mark: Mark,
@@ -72,7 +72,8 @@ fn push_change(
     Ok(())
 }
 
-/// Appends the rows of parts that stand under their names.
+/// Appends a row for each part that differs, the first one with the key. `changes` has a member for
+/// each part, by its name.
 fn push_member_rows(
     alloc: Global,
     rows: &mut Vec<Row>,
@@ -94,7 +95,8 @@ fn push_member_rows(
     Ok(())
 }
 
-/// Appends the rows of parts that have their paths with them.
+/// Appends a row for each part that differs, the first one with the key. Each of `changes` has the
+/// path of its part.
 fn push_item_rows(
     alloc: Global,
     rows: &mut Vec<Row>,

@@ -66,7 +66,8 @@ pub(crate) fn push_name(alloc: Global, out: &mut Vec<char>, name: &str) -> Resul
     Ok(())
 }
 
-/// Appends the member of a side, or a word that says that there is none.
+/// Appends the value that `change` has on a side, `left` or `right`, or the word `missing` if it
+/// has none.
 pub(crate) fn push_side(
     alloc: Global,
     out: &mut Vec<char>,

@@ -96,7 +96,8 @@ pub fn match_columns<L: ByteRows, R: ByteRows>(
     ensures names { IfOk result
         (λ _. AreMatchable (L.strings left.now) (R.strings right.now)
         (names_of choice.now.keys.now)) }
-    ensures layout { MatchResult result (IsLayout (L.strings left.now) (R.strings right.now) choice.now)
+    ensures layout { MatchResult result
+        (IsLayout (L.strings left.now) (R.strings right.now) choice.now)
         (IsColumnFault (L.strings left.now) (R.strings right.now) (names_of choice.now.keys.now)) }
 {
     test_names(left, right, choice.keys)?;

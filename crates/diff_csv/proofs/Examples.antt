@@ -62,7 +62,7 @@ day-records : AreRecordsOf commas (codes "day,n\n3,8\n") ((codes "day" ∷ codes
 unfolding next_record Reached strip_bom
 day-records = (st.StartRecord, [], ((_, st.StartRecord, codes "3,8\n"), refl, refl, ((_, st.StartRecord, []), refl, refl, (refl, refl))), refl)
 
--- a text ends within quotes, or behind them
+-- a text ends within quotes, or after them
 open-quote : ends_open commas (codes "a,\"b") ≡ true
 unfolding state_after strip_bom
 open-quote = refl
@@ -75,7 +75,7 @@ closed-quote = refl
 quote-never-ends : IsReadFault commas (codes "a,\"b") (OpenQuote 1)
 quote-never-ends = open-quote
 
--- with the mark behind it the first of these has a record whose last field is not empty, and the second one more record
+-- with the mark after it the first of these has a record whose last field is not empty, and the second one more record
 open-mark : AreRecordsOf commas (codes "a,\"b" ++ mark) ((codes "a" ∷ codes "b\n" ∷ []) ∷ [])
 unfolding next_record Reached strip_bom
 open-mark = (st.StartRecord, [], ((codes "a" ∷ codes "b\n" ∷ [], st.StartRecord, []), refl, refl, (refl, refl)), refl)
@@ -104,7 +104,7 @@ by-header = refl
 by-number : names_of false (seven ∷ []) ≡ codes "1" ∷ codes "2" ∷ []
 by-number = rw (decimal_digit 1 (omega arith), decimal_digit 2 (omega arith)) refl
 
--- a second record of one field behind a first one of two
+-- a second record of one field after a first one of two
 one-field-short : HasOtherLength commas (codes "id,n\n7\n") 2 1
 unfolding next_record Reached strip_bom
 one-field-short = record {

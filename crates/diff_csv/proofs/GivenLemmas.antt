@@ -28,7 +28,7 @@ length_fault line width found error.Delimiter h = absurd h
 length_fault line width found (error.Length l e f) h = tt
 length_fault line width found (error.OpenQuote l) h = tt
 
--- a row behind others
+-- a row after others
 rows_push : (b : Bool) (first : List (List ℕ)) (more : List (List (List ℕ))) (r : List (List ℕ)) → data_rows b (first ∷ more) ++ r ∷ [] ≡ data_rows b (first ∷ (more ++ r ∷ []))
 rows_push true first more r = refl
 rows_push false first more r = refl

@@ -1,4 +1,4 @@
--- A text with a mark behind it.
+-- A text with a mark after it.
 use Rattle.std.proofs.Common.{◌≡◌, ◌≢◌, ◌∙◌, ◌⊎◌, ℕ, Bool, true, false, List, [], ◌∷◌, ◌++◌, Option, Some, None, sym, refl, ap, subst, inl, inr, arith}
 use Rattle.std.specs.Prelude.{◌==◌, ◌&&◌, if◌then◌else◌, ⊤}
 use Rattle.csv.specs.Machine.{Read, ends_with, field_after, fields_after, in_field, is_end, next_record, start_field, start_record, step}
@@ -65,7 +65,7 @@ steps_clean d st.InEscape c f q h = absurd h
 steps_clean d st.InComment c f q h = absurd h
 steps_clean d st.AfterCr c f q h = either (c == 10) (st.StartRecord, act.Skip) (start_record (settings d) c) c f q (skips st.StartRecord c f q h) (start_record_steps d c f q h)
 
--- what stands behind a record: the rest of the text and the mark, or the mark's quote alone
+-- what stands after a record: the rest of the text and the mark, or the mark's quote alone
 abbrev Behind : Read → List ℕ → Type 0
 Behind p zs = (p.2 ≡ zs ++ mark) ⊎ ((p.1 ≡ st.StartRecord) × (zs ≡ []) × (p.2 ≡ 34 ∷ []))
 
@@ -101,7 +101,7 @@ at_end d ne st.InEscape f q h = absurd h
 at_end d ne st.InComment f q h = absurd h
 at_end d ne st.AfterCr f q h = rw (h.0, h.1) (([] ∷ [], st.StartRecord, []), refl, inr (refl, refl, inl (refl, refl, refl)))
 
--- the next record of a text with the mark behind it
+-- the next record of a text with the mark after it
 pub next_marked : (d : ℕ) → (10 == d) ≡ false → (xs : List ℕ) (s : State) (f : List (List ℕ)) (q : List ℕ) → Clean s f q → Marked d s f q xs
 unfolding next_record state_after
 next_marked d ne [] s f q h = at_end d ne s f q h
@@ -128,20 +128,20 @@ Walked d s xs rows last s2 ys = (s3 : State) × (zs : List ℕ) × Reached (sett
     × (next_record (settings d) s2 [] [] ys ≡ None → last ≡ [] ∷ [] → (next_record (settings d) s3 [] [] zs ≡ None) × (is_quoted (state_after (settings d) s xs) ≡ false))
     × (next_record (settings d) s2 [] [] ys ≡ None → last ≢ [] ∷ [] → is_quoted (state_after (settings d) s xs) ≡ true)
 
--- no record stands behind the last one
+-- no record stands after the last one
 past_end : (d : ℕ) (rows : List (List (List ℕ))) (last : List (List ℕ)) (s2 : State) (ys : List ℕ) {T : Type 0} → Reached (settings d) st.StartRecord [] (rows ++ last ∷ []) s2 ys → T
 unfolding Reached next_record
 past_end d [] last s2 ys h = cc h.1
 past_end d (r ∷ rs) last s2 ys h = cc h.1
 
--- behind the line feed of the mark its quote reads as the whole mark does
+-- after the line feed of the mark its quote reads as the whole mark does
 whole_mark : (d : ℕ) (rows : List (List (List ℕ))) (last : List (List ℕ)) (s2 : State) (ys : List ℕ)
     → Reached (settings d) st.StartRecord (34 ∷ []) (rows ++ last ∷ []) s2 ys → Reached (settings d) st.StartRecord ([] ++ mark) (rows ++ last ∷ []) s2 ys
 unfolding Reached next_record
 whole_mark d [] last s2 ys h = h
 whole_mark d (r ∷ rs) last s2 ys h = h
 
--- the last record of a text with the mark behind it
+-- the last record of a text with the mark after it
 last_walk : (d : ℕ) (s : State) (xs : List ℕ) (last : List (List ℕ)) (s2 : State) (ys : List ℕ) (p : Read) → (10 == d) ≡ false
     → last ≡ p.0 → p.1 ≡ s2 → p.2 ≡ ys → Goes d s [] [] xs p ⊎ Stops d s [] [] xs p → Walked d s xs [] last s2 ys
 unfolding Reached next_record
@@ -165,7 +165,7 @@ unfolding Reached
 more_walk d s xs r rows last s1 s2 zs ys next quoted h =
     (h.0, h.1, ((r, s1, zs), next, refl, h.2), (λ none e. ((h.3 none e).0, quoted ∙ (h.3 none e).1)), (λ none e. quoted ∙ h.4 none e))
 
--- a first record, and what those behind it show
+-- a first record, and what those after it show
 step_walk : (d : ℕ) (r : List (List ℕ)) (rows : List (List (List ℕ))) (last : List (List ℕ)) (s : State) (xs : List ℕ) (s2 : State) (ys : List ℕ) (p : Read)
     → r ≡ p.0 → Reached (settings d) p.1 p.2 (rows ++ last ∷ []) s2 ys
     → ((s1 : State) (zs : List ℕ) → Clean s1 [] [] → Reached (settings d) s1 (zs ++ mark) (rows ++ last ∷ []) s2 ys → Walked d s1 zs rows last s2 ys)
@@ -177,7 +177,7 @@ step_walk d r rows last s xs s2 ys p row more others (inl (zs, next, inr (start,
     (others p.1 zs clean (rw (start, nil) (whole_mark d rows last s2 ys (rw (start, tail) at more)))))
 step_walk d r rows last s xs s2 ys p row more others (inr (start, nil, what)) = past_end d rows last s2 ys (rw (start, nil) at more)
 
--- the records of a text, from those of the text with the mark behind it
+-- the records of a text, from those of the text with the mark after it
 pub walk : (d : ℕ) → (10 == d) ≡ false → (rows : List (List (List ℕ))) (last : List (List ℕ)) (s : State) (xs : List ℕ) (s2 : State) (ys : List ℕ) → Clean s [] []
     → Reached (settings d) s (xs ++ mark) (rows ++ last ∷ []) s2 ys → Walked d s xs rows last s2 ys
 unfolding Reached
@@ -196,7 +196,7 @@ walk d ne (r ∷ rows) last s xs s2 ys clean h =
     (subst (λ (x : Read). Reached (settings d) x.1 x.2 (rows ++ last ∷ []) s2 ys) same h.3)
     (λ s1 zs. walk d ne rows last s1 zs s2 ys) m.2
 
--- a mark at the start of a text is no matter of what stands behind the text
+-- a mark at the start of a text is no matter of what stands after the text
 pub strip_marked : (xs : List ℕ) → strip_bom (xs ++ mark) ≡ strip_bom xs ++ mark
 unfolding strip_bom
 strip_marked [] = refl

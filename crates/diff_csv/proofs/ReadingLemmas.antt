@@ -97,7 +97,7 @@ unfolding field_at
 no_field [] none e = cc e
 no_field (f ∷ fs) none e = cc none
 
--- with the mark behind it each text has a record
+-- with the mark after it each text has a record
 no_none : (options : CsvOptions) (text : List ℕ) {T : Type 0} → is_delimiter options.delimiter ≡ true → AreRecordsOf options (text ++ mark) [] → T
 unfolding Reached
 no_none options text able all =
@@ -111,7 +111,7 @@ pub first_ahead : {R : Type 0} (rem : R → Option (List ℕ)) (options : CsvOpt
 first_ahead rem options text reader fields true able h = h
 first_ahead rem options text reader fields false able h = no_none options text able h
 
--- the records that were read with the mark behind the text, the last one by its name
+-- the records that were read with the mark after the text, the last one by its name
 walked : (options : CsvOptions) (text : List ℕ) (rows : List (List (List ℕ))) (last : List (List ℕ)) (s : _) (ys : List ℕ) → is_delimiter options.delimiter ≡ true
     → Reached (config_of options) st.StartRecord (strip_bom (text ++ mark)) (rows ++ last ∷ []) s ys
     → Walked options.delimiter st.StartRecord (strip_bom text) rows last s ys

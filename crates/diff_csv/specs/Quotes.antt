@@ -1,7 +1,7 @@
 -- Texts that end within quotes, and what shows it.
 --
 -- The text `a,"b` ends within quotes, and `a,"b"` does not. With a mark of a line feed and a quote
--- behind them the last record of the first is a and b with the line feed, and that of the second is
+-- after them the last record of the first is a and b with the line feed, and that of the second is
 -- one empty field.
 use Rattle.std.specs.Prelude.{ℕ, Bool, true, false, List, [], ◌∷◌}
 use Rattle.csv.specs.Machine.{step}
@@ -12,7 +12,7 @@ use Rattle.csv.specs.declared.parser.State.TheVariants as st
 use Rattle.diff_csv.specs.Options.{config_of}
 use Rattle.diff_csv.specs.declared.options.CsvOptions.{CsvOptions}
 
--- the state of the reader of records behind some bytes
+-- the state of the reader of records after some bytes
 unfoldable pub state_after : Config → State → List ℕ → State
 state_after cfg s [] = s
 state_after cfg s (c ∷ rest) = state_after cfg (step cfg s c).0 rest
@@ -32,7 +32,7 @@ is_quoted st.AfterCr = false
 abbrev pub ends_open : CsvOptions → List ℕ → Bool
 ends_open options text = is_quoted (state_after (config_of options) st.StartRecord (strip_bom text))
 
--- the mark that is read behind a text: a line feed and a quote
+-- the mark that is read after a text: a line feed and a quote
 abbrev pub mark : List ℕ
 mark = 10 ∷ 34 ∷ []
 

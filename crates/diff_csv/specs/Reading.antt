@@ -1,7 +1,7 @@
 -- A CSV text that is read record by record.
 --
 -- After the first record of the text "id,n", "7,1" is given, the second one is read too. Once this
--- is given, the mark behind the text is read: a record of one empty field.
+-- is given, the mark after the text is read: a record of one empty field.
 use Rattle.std.specs.Borrow.{Bor}
 use Rattle.std.specs.Io.Chain.{chain_remaining}
 use Rattle.std.specs.Prelude.{◌≡◌, ℕ, Bool, true, false, List, [], ◌∷◌, ◌++◌, Option, Some, None}
@@ -18,7 +18,7 @@ use Rattle.diff_csv.specs.declared.options.CsvOptions.{CsvOptions}
 use Rattle.diff_csv.specs.declared.reading.Records.{Records}
 use Rattle.diff_csv.specs.declared.source.Source.{Source}
 
--- a reader has read these records of the text, and goes on behind them
+-- a reader has read these records of the text, and goes on after them
 pub record HasRead {R : Type 0} (remaining : R → Option (List ℕ)) (options : CsvOptions)
     (text : List ℕ) (reader : Reader R) (rows : List (List (List ℕ))) : Type 0 where
   pub trim : reader.trim ≡ trim.None
@@ -35,12 +35,12 @@ HasReadOne remaining options text reader rows fields true =
     HasRead remaining options text reader (rows ++ fields ∷ [])
 HasReadOne remaining options text reader rows fields false = AreRecordsOf options text rows
 
--- the bytes that are left of a text and of the mark behind it
+-- the bytes that are left of a text and of the mark after it
 abbrev pub marked_remaining : {R : Type 0} → (R → Option (List ℕ)) → Chain R (Bor (List ℕ))
     → Option (List ℕ)
 marked_remaining remaining = chain_remaining remaining (λ (s : Bor (List ℕ)). Some s.now)
 
--- these records of the text are given, and the one behind them is read: the mark's, where the text
+-- these records of the text are given, and the one after them is read: the mark's, where the text
 -- has no more
 pub record IsReading {R : Type 0} (remaining : R → Option (List ℕ)) (options : CsvOptions)
     (text : List ℕ) (records : Records R) (rows : List (List (List ℕ))) : Type 0 where

@@ -55,7 +55,7 @@ impl<T: Drop> From<AllocFailed<T>> for CsvError {
     }
 }
 
-/// Returns what an error of the reader of records says.
+/// Returns `Read` for a failed read of the `csv` crate's reader, and `Memory` for its other errors.
 pub(crate) fn fault_of(error: csv::Error) -> CsvError
     ensures { result ≡ fault_of_kind (error_kind error) }
 {

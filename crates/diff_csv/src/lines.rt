@@ -7,8 +7,8 @@
 
 use csv::{ByteRecord, Position};
 
-/// Returns the line at a place, or 0 where no place is known. Adds `lag` to the line that the reader
-/// reports.
+/// Returns the line at a place, or 0 where no place is known. Adds `lag` to the line that the
+/// reader reports.
 pub(crate) fn line_at(place: Option<Position>, lag: u64) -> u64 {
     place.map_or(0, |at| at.line()).saturating_add(lag)
 }
@@ -27,14 +27,14 @@ pub(crate) fn line_of(record: &ByteRecord, from: u64, end: u64) -> u64 {
     end.saturating_sub(feeds_in(record))
 }
 
-/// Returns whether a reader that stands at `behind` read one byte alone from `place` on. Of the mark
-/// behind a text this is the quote: its line feed ended the last record.
+/// Returns whether a reader that stands at `behind` read one byte alone from `place` on. Of the
+/// mark after a text this is the quote: its line feed ended the last record.
 pub(crate) fn is_one_byte(place: Option<Position>, behind: Position) -> bool {
     place.map_or(false, |at| behind.byte() <= at.byte().saturating_add(1))
 }
 
 /// Returns the number of lines by which the reader lags: 1 if it has read no more line feeds than
-/// those in the fields of the first record, and otherwise 0. The reader stands at `place`, behind
+/// those in the fields of the first record, and otherwise 0. The reader stands at `place`, after
 /// that record.
 pub(crate) fn lag_behind(first: &ByteRecord, place: Position) -> u64 {
     if place.line() <= feeds_in(first).saturating_add(1) {

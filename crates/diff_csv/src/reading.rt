@@ -1,7 +1,7 @@
 //! The records of a CSV text, one after another.
 //!
 //! The reader of the `csv` crate reads a text that ends within quotes as if the quotes ended there.
-//! To notice such a text, the reader is given a mark behind it: a line feed and a quote. If the
+//! To notice such a text, the reader is given a mark after it: a line feed and a quote. If the
 //! text ends outside quotes, the mark makes one record more, of one empty field. If it ends within
 //! quotes, the line feed becomes a part of the open field, and the last record is a different one.
 
@@ -24,7 +24,7 @@ use std::alloc::Global;
 use std::io::{Chain, Read};
 use std::mem;
 
-/// The mark that is read behind a text.
+/// The mark that is read after a text.
 const MARK: &[u8] = b"\n\"";
 
 /// Returns whether a record is the one that the mark alone makes: one empty field.
@@ -37,7 +37,7 @@ fn is_mark(row: &ByteRecord) -> bool
     }
 }
 
-/// Returns a reader of the records of a text, of any lengths, with the mark behind it.
+/// Returns a reader of the records of a text, of any lengths, with the mark after it.
 fn reader_of<R: Read>(
     alloc: Global,
     input: R,
@@ -71,7 +71,7 @@ fn read_record<R: Read>(reader: &mut Reader<R>, row: &mut ByteRecord) -> Result<
 /// Records of a text that are given one after another.
 pub(crate) struct Records<R> {
     reader: Reader<Chain<R, &'static [u8]>>,
-    // The record behind those that were given. It is the mark's if the text has no more records.
+    // The record after those that were given. It is the mark's if the text has no more records.
     ahead: Box<ByteRecord>,
     // The line at which the reader began to look for it.
     from: u64,
@@ -122,8 +122,8 @@ impl<R: Read + Drop> Records<R> {
         self.from.saturating_sub(1).saturating_sub(lag)
     }
 
-    /// Gives the next record in `row`. Returns the line at which it begins, or `None` where there
-    /// is no more record.
+    /// Reads the next record into `row`. Returns the line on which it begins, or `None` if there
+    /// are no more.
     pub(crate) fn read(&mut self, row: &mut Box<ByteRecord>) -> Result<Option<u64>, CsvError>
         ensures told { MatchResult result
             (λ line. (options : CsvOptions) (text : List ℕ) (rows : List (List (List ℕ)))

@@ -22,7 +22,7 @@ use std::mem;
 pub(crate) enum Ahead {
     /// The first one, which was read before any row was given.
     First,
-    /// The one behind those that were read.
+    /// The one after those that were read.
     Later,
     /// None: all rows are given.
     End,
@@ -70,8 +70,8 @@ fn check_length(row: &ByteRecord, width: usize, line: u64) -> Result<(), CsvErro
 }
 
 impl<R: Read + Drop> RowReader<R> {
-    /// Begins a text. Its first record, if it has one, is read already, begins at `line`, and is a
-    /// row if there is no header. The one error is `Memory`.
+    /// Creates a reader of the rows of a text. The first record of the text, if it has one, is read
+    /// already, begins at `line`, and is a row if there is no header. The one error is `Memory`.
     pub(crate) fn new(
         alloc: Global,
         records: Records<R>,
@@ -106,7 +106,7 @@ impl<R: Read + Drop> RowReader<R> {
         })
     }
 
-    /// Gives the row behind those that were read in `row`.
+    /// Gives the row after those that were read in `row`.
     fn read_later(&mut self, row: &mut Box<ByteRecord>) -> Result<Option<u64>, CsvError>
         requires { self.old.ahead ≡ Later }
         ensures told { MatchResult result
@@ -126,10 +126,10 @@ impl<R: Read + Drop> RowReader<R> {
         Ok(Some(line))
     }
 
-    /// Gives the next row in `row`. Returns the line at which it begins, or `None` where there is
-    /// no more row. Fails with `Length` only at a record of another length than the first one's,
-    /// with `OpenQuote` only where the text ends within quotes, and never with `Delimiter`. After
-    /// an error the rest of the text can't be read.
+    /// Reads the next row into `row`. Returns the line on which it begins, or `None` if there are
+    /// no more. Fails with `Length` only at a record of another length than the first one's, with
+    /// `OpenQuote` only where the text ends within quotes, and never with `Delimiter`. After an
+    /// error the rest of the text can't be read.
     pub fn read(&mut self, row: &mut Box<ByteRecord>) -> Result<Option<u64>, CsvError>
         ensures told { MatchResult result
             (λ line. (options : CsvOptions) (text : List ℕ) (rows : List (List (List ℕ)))

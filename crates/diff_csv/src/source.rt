@@ -103,7 +103,7 @@ fn read_rows<R: Read + Drop>(
 
 /// A CSV text whose first record is read.
 pub struct Source<R> {
-    // The records behind the first one.
+    // The records after the first one.
     records: Records<R>,
     // The first record, unless the text has none.
     first: Option<ByteRecord>,

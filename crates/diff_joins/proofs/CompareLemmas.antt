@@ -1,4 +1,4 @@
--- The pairs that differ, of tables of which one lies behind the other.
+-- The pairs that differ, of tables of which one lies after the other.
 use Rattle.std.proofs.Common.{◌≡◌, ◌∙◌, ◌+◌, ◌<◌, ◌↔◌, ℕ, List, [], ◌++◌, length, get_or, arith, ap, sym, refl, subst}
 use Rattle.std.proofs.lemmas.List.{get_or-append-add, get_or_append_left, length-map, map-append}
 use Rattle.std.specs.Prelude.{slice_index}
@@ -50,7 +50,7 @@ matched_pairs columns left right m h = record {
   right_within = λ k within. omega (arith, (h.partners k (omega (arith, within, h.one_length))).right_row, length-map right (row_key columns));
 }
 
--- a matching of the keys of tables one behind the other
+-- a matching of the keys of tables one after the other
 module _ (columns : List ℕ) (left right later_left later_right : List (List (List ℕ))) (first second whole : Comparison)
     (apart : ShareNoKey (row_keys columns left) (row_keys columns right) (row_keys columns later_left) (row_keys columns later_right))
     (h : IsComparison columns left right first) (g : IsComparison columns later_left later_right second) where

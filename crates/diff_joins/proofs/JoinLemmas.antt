@@ -1,4 +1,4 @@
--- The comparison of tables that share no key with others behind them.
+-- The comparison of tables that share no key with others after them.
 use Rattle.std.proofs.Common.{◌≡◌, ◌∙◌, ◌+◌, ◌<◌, ◌↔◌, ◌⊎◌, ℕ, suc, List, [], ◌∷◌, ◌++◌, length, arith, ap, sym, refl, subst, inl, inr, length-append}
 use Rattle.std.proofs.lemmas.Option.{same_Some}
 use Rattle.std.specs.List.{Contains}

@@ -1,4 +1,4 @@
--- Numbers that are listed, and behind them others that lie further on.
+-- Numbers that are listed, and after them others that lie further on.
 use Rattle.std.proofs.Common.{◌≡◌, ◌∙◌, ◌+◌, ◌<◌, ◌≤◌, ◌↔◌, ◌⊎◌, ℕ, zero, suc, List, [], ◌∷◌, length, map, arith, ap, sym, refl, subst, inl, inr, length-append}
 use Rattle.std.proofs.lemmas.Grind.{get_or_default_zero}
 use Rattle.std.proofs.lemmas.List.{get_or-append-add, get_or-map, get_or_append_left, length-map}
@@ -69,7 +69,7 @@ joined_rise n xs ys below first later k within = elim (part_of (length xs) (suc 
       rw (here, next) (omega (arith, less))
 ]
 
--- the numbers below n for which P holds, and those for which Q holds of what lies behind
+-- the numbers below n for which P holds, and those for which Q holds of what lies after
 pub rising_joined : (P Q R : ℕ → Type 0) (n m t : ℕ) (xs ys : List ℕ) → ListsRising P n xs → ListsRising Q m ys → t ≡ n + m
     → ((i : ℕ) → i < n → R i ↔ P i) → ((i : ℕ) → i < m → R (n + i) ↔ Q i) → ListsRising R t (with_later n xs ys)
 rising_joined P Q R n m t xs ys first later total is_first is_later = record {
@@ -115,7 +115,7 @@ heads_same x y xs ys rise there = at (place_of (y ∷ ys) x there)
         let same : slice_index ys k ≡ x = is in
         omega (arith, low, same)
 
--- a number behind the first one is listed behind it
+-- a number after the first one is listed after it
 behind_first : (x y : ℕ) (xs : List ℕ) → Contains (x ∷ xs) y → x < y → Contains xs y
 behind_first x y xs there less = at (place_of (x ∷ xs) y there)
   where

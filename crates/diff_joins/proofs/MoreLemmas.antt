@@ -98,7 +98,7 @@ last_pair left right key same = record {
   one_number = last_number left key ∙ (same ∙ sym (last_number right key));
 }
 
--- the partners of two tables with one more row of a key behind each
+-- the partners of two tables with one more row of a key after each
 pub one_pair_more : (left right : Keys) (key : List ℕ) → count_of key left ≡ count_of key right → (i j : ℕ) → ArePartners (left ++ key ∷ []) (right ++ key ∷ []) i j
     → ArePartners left right i j ⊎ ((i ≡ length left) × (j ≡ length right))
 one_pair_more left right key same i j h = elim (place_cases (length left) i (omega (arith, h.left_row, length_push left key))) [

@@ -1,4 +1,4 @@
--- Rows of two tables of which one lies behind the other.
+-- Rows of two tables of which one lies after the other.
 use Rattle.std.proofs.Common.{◌≡◌, ◌∙◌, ◌+◌, ◌-◌, ◌<◌, ◌⊎◌, ℕ, Bool, true, false, List, [], ◌∷◌, ◌++◌, length, take, arith, ap, sym, refl, subst, inl, inr, length-append}
 use Rattle.std.proofs.Math.Seq.{take-append-add}
 use Rattle.std.proofs.lemmas.Bool.{cases_lt}

@@ -1,7 +1,7 @@
 -- Laws of comparing tables by ranges: the first tables share no key with the second ones.
 --
 -- The left keys "a", "a" and the right key "a" share no key with the left key "b" and the right
--- keys "c", "b" behind them. Of the first ones rows 0 and 0 are partners, and of the second ones
+-- keys "c", "b" after them. Of the first ones rows 0 and 0 are partners, and of the second ones
 -- rows 0 and 1. So in the whole rows 0 and 0 are, and rows 2 and 2; left row 1 is removed, and
 -- right row 1 is added.
 use Rattle.std.specs.List.{Contains}
@@ -18,12 +18,12 @@ abbrev pub ShareNoKey : (left right later_left later_right : Keys) → Type 0
 ShareNoKey left right later_left later_right = (key : List ℕ) → Contains (left ++ right) key
     → ¬ (Contains (later_left ++ later_right) key)
 
--- row numbers, and behind them the numbers of rows that lie n further on
+-- row numbers, and after them the numbers of rows that lie n further on
 abbrev pub with_later : ℕ → List ℕ → List ℕ → List ℕ
 with_later n numbers later = numbers ++ map (λ k. n + k) later
 
 -- i and j are the numbers in the whole of two rows that are partners in the second tables, which
--- lie behind n and m rows
+-- lie after n and m rows
 pub record ArePartnersBehind (n m : ℕ) (left right : Keys) (i j : ℕ) : Type 0 where
   pub left_row : ℕ
   pub right_row : ℕ
@@ -48,7 +48,7 @@ pub record IsJoined (n m : ℕ) (first second whole : Matching) : Type 0 where
   pub removed : whole.removed.items ≡ with_later n first.removed.items second.removed.items
   pub added : whole.added.items ≡ with_later m first.added.items second.added.items
 
--- the matching of the whole is that of the first tables and behind it that of the second ones
+-- the matching of the whole is that of the first tables and after it that of the second ones
 abbrev pub JoinsMatchings : Type 0
 JoinsMatchings = (left right later_left later_right : Keys) (first second whole : Matching)
     → ShareNoKey left right later_left later_right
@@ -63,7 +63,7 @@ pub record IsJoinedComparison (n m : ℕ) (first second whole : Comparison) : Ty
   pub changed : whole.changed.items
       ≡ with_later (length first.matching.left_rows.items) first.changed.items second.changed.items
 
--- the comparison of the whole is that of the first tables and behind it that of the second ones
+-- the comparison of the whole is that of the first tables and after it that of the second ones
 abbrev pub JoinsComparisons : Type 0
 JoinsComparisons =
     (columns : List ℕ) (left right later_left later_right : List (List (List ℕ)))

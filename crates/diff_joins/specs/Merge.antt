@@ -19,7 +19,7 @@ abbrev pub ComesBefore : (List ℕ → List ℕ → Bool) → List ℕ → Optio
 ComesBefore less key None = ⊤
 ComesBefore less key (Some next) = less key next ≡ true
 
--- the key that comes behind the next key of a table is no less, or there is no more row
+-- the key that comes after the next key of a table is no less, or there is no more row
 abbrev pub ComesBehind : (List ℕ → List ℕ → Bool) → Option (List ℕ) → Option (List ℕ) → Type 0
 ComesBehind less None None = ⊤
 ComesBehind less None (Some later) = ⊥

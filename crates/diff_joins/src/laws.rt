@@ -6,7 +6,7 @@ ghost use Rattle.diff_joins.specs.Merge.{MergesAdded, MergesNone, MergesOn, Merg
 ghost use Rattle.diff_joins.specs.Merge.{MergesRemoved};
 ghost use Rattle.diff_joins.specs.More.{MatchesAdded, MatchesPair, MatchesRemoved};
 
-/// Law: let two left tables lie one behind another, and two right tables too, and let no row of the
+/// Law: let two left tables lie one after another, and two right tables too, and let no row of the
 /// first ones have the key of a row of the second ones. Then the partners in the whole are those in
 /// the first tables and those in the second ones. The rows of the whole are matched and compared as
 /// those of the first tables are, followed by those of the second ones.

@@ -12,7 +12,7 @@ pub pieces : (old text before more last after : List ℕ) → before ≡ old ++ 
 pieces old text before more last after b a =
     a ∙ (ap (λ l. l ++ more ++ last) b ∙ (ap (λ l. l ++ last) (append_assoc old text more) ∙ append_assoc old (text ++ more) last))
 
--- the quote behind a text, of which nothing is left to write
+-- the quote after a text, of which nothing is left to write
 pub quote_behind : (old texts rest before after : List ℕ) → before ++ rest ≡ (old ++ 34 ∷ []) ++ texts → rest ≡ [] → after ≡ before ++ 34 ∷ [] → after ≡ old ++ (34 ∷ texts ++ 34 ∷ [])
 quote_behind old texts rest before after written none a =
     let all : before ≡ (old ++ 34 ∷ []) ++ texts = sym (append-nil before) ∙ (ap (λ l. before ++ l) (sym none) ∙ written) in

@@ -44,7 +44,7 @@ first_name : (name r : List ℕ) → punctuate fresh (lex between (json_string n
 unfolding punctuate lex
 first_name name r = ap (punctuate fresh) (lex_string name (58 ∷ r))
 
--- a later one, behind its comma
+-- a later one, after its comma
 later_name : (name r : List ℕ) → punctuate after_value (lex between (44 ∷ json_string name ++ 58 ∷ r)) ≡ Token.key (utf8_lossy name) ∷ punctuate fresh (lex between r)
 unfolding punctuate lex
 later_name name r = ap (punctuate after_comma) (lex_string name (58 ∷ r))
@@ -53,7 +53,7 @@ later_name name r = ap (punctuate after_comma) (lex_string name (58 ∷ r))
 abbrev pub member_text : {X : Type 0} → (X → List ℕ) → (X → List ℕ) → X → List ℕ
 member_text name text x = json_string (name x) ++ 58 ∷ text x
 
--- the members behind the first one, and the end of the object
+-- the members after the first one, and the end of the object
 abbrev later_text : {X : Type 0} → (X → List ℕ) → (X → List ℕ) → List X → List ℕ → List ℕ
 later_text name text xs r = flat_map (λ y. codes "," ++ y) (map (member_text name text) xs) ++ 125 ∷ r
 
@@ -68,7 +68,7 @@ module _ {X : Type 0} (name text : X → List ℕ) (value : X → Json) (each : 
   later_closes [] r = record { ends = refl; value = refl }
   later_closes (x ∷ xs) r = record { ends = refl; value = refl }
 
-  -- a value, and the members behind it
+  -- a value, and the members after it
   value_read : (x : X) (xs : List X) (r : List ℕ) → punctuate after_value (lex between (later_text name text xs r)) ≡ members_tokens (members_of name value xs) ++ punctuate after_value (lex between r)
       → punctuate fresh (lex between (text x ++ later_text name text xs r)) ≡ (json_tokens (value x) ++ members_tokens (members_of name value xs)) ++ punctuate after_value (lex between r)
   value_read x xs r rest =

@@ -1,6 +1,7 @@
 -- The line with the counts.
 --
--- {"kind":"counts","changed":1,"removed":1,"added":1,"same":998999,"not_shown":0,"columns":{"city":1}}
+-- {"kind":"counts","changed":1,"removed":1,"added":1,"same":998999,"not_shown":0,
+--  "columns":{"city":1}}
 use Rattle.std.specs.Fmt.{decimal}
 use Rattle.std.specs.Prelude.{ℕ, ◌+◌, ◌-◌, List, [], ◌∷◌, ◌++◌, length, map, get_or, slice_index}
 use Rattle.std.specs.Prelude.{codes}

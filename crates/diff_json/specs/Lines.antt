@@ -1,6 +1,7 @@
 -- The lines of differences. Rows and lines count from 1.
 --
--- {"kind":"changed","key":{"id":"4411"},"left_row":5,"right_row":7,"left_line":6,"right_line":8,"changes":{"city":{"left":"Oslo","right":"Bergen"}}}
+-- {"kind":"changed","key":{"id":"4411"},"left_row":5,"right_row":7,"left_line":6,"right_line":8,
+--  "changes":{"city":{"left":"Oslo","right":"Bergen"}}}
 -- {"kind":"removed","key":{"id":"77"},"row":77,"line":78}
 use Rattle.std.specs.Fmt.{decimal}
 use Rattle.std.specs.Prelude.{ℕ, List, ◌++◌, slice_index, codes}

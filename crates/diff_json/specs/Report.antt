@@ -1,8 +1,10 @@
 -- The report of a comparison as JSON lines.
 --
--- {"kind":"changed","key":{"id":"4411"},"left_row":5,"right_row":7,"left_line":6,"right_line":8,"changes":{"city":{"left":"Oslo","right":"Bergen"}}}
+-- {"kind":"changed","key":{"id":"4411"},"left_row":5,"right_row":7,"left_line":6,"right_line":8,
+--  "changes":{"city":{"left":"Oslo","right":"Bergen"}}}
 -- {"kind":"removed","key":{"id":"77"},"row":77,"line":78}
--- {"kind":"counts","changed":1,"removed":1,"added":1,"same":998999,"not_shown":1,"columns":{"city":1}}
+-- {"kind":"counts","changed":1,"removed":1,"added":1,"same":998999,"not_shown":1,
+--  "columns":{"city":1}}
 use Rattle.std.specs.List.{concat}
 use Rattle.std.specs.Prelude.{ℕ, List, ◌++◌, map, take, codes}
 use Rattle.diff_tables.specs.declared.compare.Comparison.{Comparison}

@@ -59,7 +59,8 @@ fn push_if_changed(
         then gap (codes ",") written
         ++ change_member (naming_of sides.now) (row_of sides.now.left i)
         (row_of sides.now.right j) column else [])) }
-    ensures count { IfOk result (λ n. n ≡ written + (if is_apart sides.now i j column then 1 else 0)) }
+    ensures count { IfOk result
+        (λ n. n ≡ written + (if is_apart sides.now i j column then 1 else 0)) }
 {
     if sides.compared_left().cell(i, column) == sides.compared_right().cell(j, column) {
         return Ok(written);

@@ -34,7 +34,8 @@ fn push_if_counted(
         (out.new.items ≡ out.old.items
         ++ (if is_counted counts.now column then gap (codes ",") written
         ++ column_member (offset_strings (λ x. x) names.now) counts.now column else [])) }
-    ensures count { IfOk result (λ n. n ≡ written + (if is_counted counts.now column then 1 else 0)) }
+    ensures count { IfOk result
+        (λ n. n ≡ written + (if is_counted counts.now column then 1 else 0)) }
 {
     if counts[column] == 0 {
         return Ok(written);

@@ -28,10 +28,10 @@ pub fn law_pair()
 
 /// Law: the line of a row that only one side has is one line, which is read back as its members.
 pub fn law_row()
-    ensures removed_line { (n : Naming) (i line : ℕ) (cells : List (List ℕ)) → i < 2 ^ 64 → line < 2 ^ 64
-        → IsLine (row_object (codes "removed") n i line cells) }
-    ensures added_line { (n : Naming) (i line : ℕ) (cells : List (List ℕ)) → i < 2 ^ 64 → line < 2 ^ 64
-        → IsLine (row_object (codes "added") n i line cells) }
+    ensures removed_line { (n : Naming) (i line : ℕ) (cells : List (List ℕ)) → i < 2 ^ 64
+        → line < 2 ^ 64 → IsLine (row_object (codes "removed") n i line cells) }
+    ensures added_line { (n : Naming) (i line : ℕ) (cells : List (List ℕ)) → i < 2 ^ 64
+        → line < 2 ^ 64 → IsLine (row_object (codes "added") n i line cells) }
     ensures removed { (n : Naming) (i line : ℕ) (cells : List (List ℕ)) → i < 2 ^ 64 → line < 2 ^ 64
         → document (row_object (codes "removed") n i line cells)
         ≡ Some (row_value (codes "removed") n i line cells) }

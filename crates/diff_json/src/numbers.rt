@@ -1,4 +1,4 @@
-//! Numbers, each behind the text that names it.
+//! Numbers, each after the text that names it.
 
 ghost use Rattle.std.specs.Prelude.{◌≡◌, ◌++◌, OnOk};
 
@@ -6,7 +6,7 @@ use diff_words::decimals::push_decimal;
 use itoa::Integer;
 use std::alloc::AllocError;
 
-/// Appends the text before a number, and the number in decimal.
+/// Appends `before`, then `n` in decimal.
 pub fn push_number<I: Integer>(out: &mut Vec<u8>, before: &[u8], n: I) -> Result<(), AllocError>
     ensures { OnOk result (out.new.items ≡ out.old.items ++ before.now ++ I.text n) }
 {

@@ -9,7 +9,7 @@ ghost use Rattle.diff_json.specs.Strings.{char_text, escape_text, json_string};
 use bstr::ByteSlice;
 use std::alloc::AllocError;
 
-/// Returns the letter that stands behind a backslash for a character.
+/// Returns the letter that stands after a backslash for a character.
 fn letter_of(c: char) -> Option<u8>
     ensures { result ≡ letter_of c }
 {

@@ -132,7 +132,7 @@ taken_head keys P Q h c heads next w old low head =
         let there : IsFirstAt (IsIn keys N P (class_of N (key_at keys t))) (suc t) (length keys) h = subst (IsFirst (IsIn keys N P (class_of N (key_at keys t))) (suc t) (length keys)) is (old.later t inside p) in
         at.before t (omega arith) (omega (arith, there.from)) (p, sym there.holds.1 ∙ at.holds.1)
 
--- a row behind another one of its class is taken
+-- a row after another one of its class is taken
 pub taken_behind : (keys : Keys) (P Q : ℕ → Type 0) (b h : ℕ) (heads next : List (Option ℕ)) → IsWithout keys P Q h → AreChained keys P heads next → b < length keys → P b → get_or next b None ≡ Some h
     → AreChained keys Q heads (set next b (get_or next h None))
 taken_behind keys P Q b h heads next w old low waits link = record {

@@ -10,7 +10,7 @@ use Rattle.std.specs.List.{Contains}
 use Rattle.std.specs.Prelude.{slice_index}
 use Rattle.diff_keys.specs.Rising.{ListsRising}
 
--- rising numbers still rise once a greater number stands behind them
+-- rising numbers still rise once a greater number stands after them
 pub rising_push : (rows : List ℕ) (n : ℕ) → ((k : ℕ) → k < length rows → slice_index rows k < n)
     → ((k : ℕ) → suc k < length rows → slice_index rows k < slice_index rows (suc k))
     → (k : ℕ) → suc k < length (rows ++ n ∷ [])

@@ -34,7 +34,7 @@ pub(crate) fn pairs_found(alloc: Global, found: &[Option<u32>]) -> Result<Pairs,
     })
 }
 
-/// Lists the rows that found no partner.
+/// Returns the rows that found no partner, in ascending order.
 pub(crate) fn rows_alone(alloc: Global, found: &[Option<u32>]) -> Result<Vec<u32>, AllocError>
     requires { length found.now ≤ 2 ^ 32 }
     ensures { IfOk result

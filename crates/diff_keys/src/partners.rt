@@ -96,10 +96,12 @@ fn push_partners<L: ByteRows, R: ByteRows>(
     classes: &[usize],
     guesses: &[Option<u32>],
 ) -> Result<(), AllocError>
-    requires found { HaveFound (L.strings left.now) (R.strings right.now) start waiting.old found.old.items }
+    requires found { HaveFound (L.strings left.now) (R.strings right.now) start waiting.old
+        found.old.items }
     requires rise { start ≤ end }
     requires within { end ≤ length (L.strings left.now) }
-    requires classes { AreClasses (L.strings left.now) (length waiting.old.heads.items) start end classes.now }
+    requires classes { AreClasses (L.strings left.now) (length waiting.old.heads.items) start end
+        classes.now }
     requires guesses { AreGuesses (L.strings left.now) (R.strings right.now) start end guesses.now }
     ensures { IfOk result
         (λ _. HaveFound (L.strings left.now) (R.strings right.now) end waiting.new
@@ -123,7 +125,8 @@ fn push_block<L: ByteRows, R: ByteRows>(
     right: &R,
     waiting: &mut Waiting,
 ) -> Result<(), AllocError>
-    requires found { HaveFound (L.strings left.now) (R.strings right.now) start waiting.old found.old.items }
+    requires found { HaveFound (L.strings left.now) (R.strings right.now) start waiting.old
+        found.old.items }
     requires rise { start ≤ end }
     requires within { end ≤ length (L.strings left.now) }
     ensures { IfOk result

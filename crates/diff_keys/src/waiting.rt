@@ -31,7 +31,7 @@ pub(crate) fn class_of(key: &[u8], count: usize) -> usize
     (key_hash(key) % count as u64) as usize
 }
 
-/// Returns all rows of a table, which all wait.
+/// Returns the chains of all rows of a table: each still waits for a partner.
 pub(crate) fn all_waiting<R: ByteRows>(alloc: Global, keys: &R) -> Result<Waiting, AllocError>
     requires { length (R.strings keys.now) ≤ 2 ^ 32 }
     ensures { IfOk result
@@ -71,7 +71,8 @@ impl Waiting {
         class: usize,
         guess: Option<u32>,
     ) -> Option<u32>
-        requires waiting { (left : Keys) × (i : ℕ) × AreWaiting left (R.strings keys.now) i self.old }
+        requires waiting { (left : Keys) × (i : ℕ)
+            × AreWaiting left (R.strings keys.now) i self.old }
         requires class { class ≡ class_of (length self.old.heads.items) key.now }
         requires guess { IfSome guess (HasKey (R.strings keys.now) key.now) }
         ensures taken { (left : Keys) (i : ℕ) → i < length left → key_at left i ≡ key.now
@@ -87,14 +88,15 @@ impl Waiting {
         self.take_behind(keys, key, head)
     }
 
-    /// Takes the first row of a key out of those that wait behind the first one of its class, which
+    /// Takes the first row of a key out of those that wait after the first one of its class, which
     /// has another key.
     #[inline(never)]
     fn take_behind<R: ByteRows>(&mut self, keys: &R, key: &[u8], head: u32) -> Option<u32>
-        requires waiting { (left : Keys) × (i : ℕ) × AreWaiting left (R.strings keys.now) i self.old }
+        requires waiting { (left : Keys) × (i : ℕ)
+            × AreWaiting left (R.strings keys.now) i self.old }
         requires some { 0 < length self.old.heads.items }
-        requires head { get_or self.old.heads.items (class_of (length self.old.heads.items) key.now) None
-            ≡ Some head }
+        requires head { get_or self.old.heads.items (class_of (length self.old.heads.items) key.now)
+            None ≡ Some head }
         requires other { key_at (R.strings keys.now) head ≢ key.now }
         ensures taken { (left : Keys) (i : ℕ) → i < length left → key_at left i ≡ key.now
             → AreWaiting left (R.strings keys.now) i self.old

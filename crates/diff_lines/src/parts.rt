@@ -11,7 +11,8 @@ use json::Value;
 /// Returns the value of the last member with this name, if there is one.
 pub fn part_of<'v, 'a>(value: &'v Value<'a>, name: &str) -> Option<&'v Value<'a>>
     requires { HasNumbers (value_view value.now) }
-    ensures found { option_map (λ v. value_view v.now) result ≡ get name.now (value_view value.now) }
+    ensures found { option_map (λ v. value_view v.now) result
+        ≡ get name.now (value_view value.now) }
     ensures numbers { IfSome result (λ v. HasNumbers (value_view v.now)) }
 {
     value.get(name)

@@ -15,7 +15,7 @@ marks : safe (codes "\"a|b`c\"") ≡ codes "\"a\\u007cb\\u0060c\""
 unfolding safe safe_byte
 marks = refl
 
--- U+0085 behind an a, and a degree sign
+-- U+0085 after an a, and a degree sign
 high : safe (97 ∷ 194 ∷ 133 ∷ 194 ∷ 176 ∷ []) ≡ codes "a\\u0085" ++ 194 ∷ 176 ∷ []
 unfolding safe safe_byte
 high = refl

@@ -37,7 +37,7 @@ item_row_written all now after name path js i j within is e p a =
     one_written all now after _ _ (ap (λ l. now ++ item_rows name (items_view l)) (sym (first_of_rest js i j within is)) ∙ e)
     (a ∙ ap (λ s. now ++ change_row name s (value_view j)) p)
 
--- behind the last one nothing is still to be written
+-- after the last one nothing is still to be written
 pub all_pairs : {A : Type 0} (all now gap : List ℕ) (ms : List (Pair A)) (i : ℕ) → length ms ≤ i → now ++ pairs_after gap (members_view (drop i ms)) ≡ all → now ≡ all
 all_pairs all now gap ms i past e = sym (append-nil now) ∙ ap (λ l. now ++ pairs_after gap (members_view l)) (sym (drop_of_length-le ms past)) ∙ e
 

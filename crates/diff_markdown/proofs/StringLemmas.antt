@@ -110,7 +110,7 @@ low_first p x r low =
     let bare : is_escaped p x ≡ false = grind (arith, nat_tests) in
     rw (kept, bare) refl
 
--- behind such a byte a text is written as at the front
+-- after such a byte a text is written as at the front
 pub calm : (p : ℕ) (r : List ℕ) → is_low p ≡ true → safe_behind p r ≡ safe_behind 0 r
 unfolding safe_byte
 calm p [] low = refl
@@ -167,7 +167,7 @@ all_low = refl
 
 -- ---- a string that is written safely
 
--- the content is s, and behind its quote stands the safe text of r
+-- the content is s, and after its quote stands the safe text of r
 pub record Spells (text s r : List ℕ) : Type 0 where
   pub read : content plain text ≡ Some s
   pub lexed : lex in_string text ≡ lex between (safe_behind 0 r)
@@ -181,7 +181,7 @@ low_second p x low = grind (arith, nat_tests)
 high_parts : (b c : ℕ) → is_high_control b c ≡ true → (b ≡ 194) × ((128 ≤ c) × (c < 160))
 high_parts b c h = (grind (arith, nat_tests), (grind (arith, nat_tests), grind (arith, nat_tests)))
 
--- a byte that begins no control character begins none before what is printed for the bytes behind it
+-- a byte that begins no control character begins none before what is printed for the bytes after it
 kept_before : (b : ℕ) (s r : List ℕ) → is_high_control b (get_or s 0 0) ≡ false → is_high_control b (get_or (escape s ++ 34 ∷ r) 0 0) ≡ false
 kept_before b [] r h = low_second b 34 (omega arith)
 kept_before b (x ∷ s) r h = elim (cases_lt x 127) [
@@ -199,7 +199,7 @@ kept_before b (x ∷ s) r h = elim (cases_lt x 127) [
         rw (escape_byte_plain x (λ y. omega (arith, above, y)) (λ y. omega (arith, above, y)) (omega (arith, above))) (low_second b x (omega (arith, low)))
     marked false e low = first (escape_byte x) (escape_below 127 all_low x low e)
 
--- what follows a byte of a string, behind any byte that does not begin a control character with it
+-- what follows a byte of a string, after any byte that does not begin a control character with it
 abbrev pub Follows : List ℕ → List ℕ → Type 0
 Follows s r = (q : ℕ) → is_high_control q (get_or s 0 0) ≡ false → Spells (safe_behind q (escape s ++ 34 ∷ r)) s r
 

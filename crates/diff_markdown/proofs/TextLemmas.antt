@@ -3,7 +3,7 @@ use Rattle.std.proofs.Common.{◌≡◌, ℕ, Bool, false, List, [], ◌++◌, a
 use Rattle.std.proofs.lemmas.List.{append_assoc}
 use Rattle.std.specs.Prelude.{if◌then◌else◌}
 
--- a text more behind what was appended
+-- a text more after what was appended
 pub appended : (out a b y z : List ℕ) → y ≡ out ++ a → z ≡ y ++ b → z ≡ out ++ (a ++ b)
 appended out a b y z e f = f ∙ ap (λ l. l ++ b) e ∙ append_assoc out a b
 

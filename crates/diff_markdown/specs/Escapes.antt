@@ -27,7 +27,7 @@ safe_byte before b after =
     if is_high_control b after then [] else
     (if is_escaped before b then unicode_escape b else b ∷ [])
 
--- the bytes of a text that stand behind another one, where 0 stands for none
+-- the bytes of a text that stand after another one, where 0 stands for none
 abbrev pub safe_behind : ℕ → List ℕ → List ℕ
 safe_behind before [] = []
 safe_behind before (b ∷ bs) = safe_byte before b (get_or bs 0 0) ++ safe_behind b bs

@@ -78,7 +78,8 @@ pub(crate) fn push_name_cell(alloc: Global, out: &mut Vec<u8>, name: &str) -> Re
     Ok(())
 }
 
-/// Appends the member of a side within a code span, or a word that says that there is none.
+/// Appends the value that `change` has on a side, `left` or `right`, in a code span, or the word
+/// `missing` if it has none.
 pub(crate) fn push_side(
     alloc: Global,
     out: &mut Vec<u8>,

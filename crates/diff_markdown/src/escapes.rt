@@ -14,7 +14,7 @@ fn is_high_control(first: u8, second: u8) -> bool
     first == 194 && 127 < second && second < 160
 }
 
-/// Returns whether a byte behind another one is a mark of Markdown or ends a control character.
+/// Returns whether a byte after another one is a mark of Markdown or ends a control character.
 fn is_escaped(before: u8, byte: u8) -> bool
     ensures { result ≡ is_escaped before byte }
 {

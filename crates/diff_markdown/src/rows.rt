@@ -57,7 +57,7 @@ fn push_change(
     Ok(())
 }
 
-/// Appends the rows of parts that stand under their names.
+/// Appends a row for each part that differs. `changes` has a member for each part, by its name.
 fn push_member_rows(
     alloc: Global,
     out: &mut Vec<u8>,
@@ -74,7 +74,7 @@ fn push_member_rows(
     Ok(())
 }
 
-/// Appends the rows of parts that have their paths with them.
+/// Appends a row for each part that differs. Each of `changes` has the path of its part.
 fn push_item_rows(
     alloc: Global,
     out: &mut Vec<u8>,

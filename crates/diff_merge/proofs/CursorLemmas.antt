@@ -46,7 +46,7 @@ below_push ks k next h g = record {
   below = All-push (λ q. ComesBefore key_less q next) ks k (all_before ks k next h.below g) g;
 }
 
--- what comes behind a key: a greater one, or the same where keys may come twice, or no row
+-- what comes after a key: a greater one, or the same where keys may come twice, or no row
 abbrev pub GoesOnTo : Bool → List ℕ → Option (List ℕ) → Type 0
 GoesOnTo unique key None = ⊤
 GoesOnTo unique key (Some next) = GoesOn unique key next
@@ -112,7 +112,7 @@ pub read_so_far : {R : Type 0} (rem : R → Option (List ℕ)) (options : CsvOpt
     → HasGiven rem options text c.reader (h.records ++ fields_of c.row.value ∷ [])
 read_so_far rem options text rows c some h = subst (λ l. GivesOne rem options text c.reader h.records (fields_of c.row.value) l) (some_line c.line some) h.given
 
--- one row more is behind
+-- one row more is passed
 pub one_on : {R : Type 0} (rem : R → Option (List ℕ)) (options : CsvOptions) (text : List ℕ) (rows : List Seen) (old new : Cursor R) (key : List ℕ) → IsSome old.line → IsAlike old new
     → new.number ≡ suc old.number → key ≡ old.key.items → IfSome new.line (λ _. new.key.items ≡ row_key new.keys.now (last_cells new))
     → ((read : List (List (List ℕ))) → HasGiven rem options text old.reader read → GivesOne rem options text new.reader read (fields_of new.row.value) new.line)

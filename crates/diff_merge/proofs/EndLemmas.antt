@@ -72,7 +72,7 @@ waits left_rem right_rem holds options left_text right_text n left right sink h 
   few = few_more n h.matching h.few;
 }
 
--- two texts of which no row is behind
+-- two texts of which no row is passed yet
 pub merge_begin : {L R S : Type 0} (left_rem : L → Option (List ℕ)) (right_rem : R → Option (List ℕ)) (holds : S → List Seen → List Seen → Matching → Type 0) (options : CsvOptions) (left_text right_text : List ℕ)
     (left : Cursor L) (right : Cursor R) (sink : S) → IsAt left_rem options left_text [] left → IsAt right_rem options right_text [] right → ((m : Matching) → IsEmpty m → holds sink [] [] m)
     → IsMergeAt left_rem right_rem holds options left_text right_text 0 left right sink
@@ -101,7 +101,7 @@ none_there : (o : Option ℕ) (k : List ℕ) → option_map (λ _. k) o ≡ None
 none_there None k e = refl
 none_there (Some l) k e = cc e
 
--- a text whose rows are all behind
+-- a text whose rows are all passed
 all_behind : {R : Type 0} (rem : R → Option (List ℕ)) (options : CsvOptions) (text : List ℕ) (rows : List Seen) (old c : Cursor R) → next_key c ≡ None → IsAlike old c → IsAt rem options text rows c
     → AreAll options text old.columns.now old.keys.now old.unique rows
 all_behind rem options text rows old c none alike h = record {

@@ -20,7 +20,7 @@ then_then Less b c = refl
 then_then Equal b c = refl
 then_then Greater b c = refl
 
--- byte strings that show their ends, with others behind them
+-- byte strings that show their ends, with others after them
 escaped_cmp : (xs ys us vs : List ℕ) → slice_cmp nat_cmp (escaped xs ++ us) (escaped ys ++ vs) ≡ ordering_then (slice_cmp nat_cmp xs ys) (slice_cmp nat_cmp us vs)
 unfolding escaped
 escaped_cmp [] [] us vs = refl

@@ -29,14 +29,14 @@ key_there : (o : Option ℕ) (k key row : List ℕ) → option_map (λ _. k) o �
 key_there None k key row e h = cc e
 key_there (Some l) k key row e h = let same : k ≡ key = cc e in sym same ∙ h
 
--- the keys of the rows that are behind, one row on
+-- the keys of the rows that were passed, one row on
 keys_on : {R : Type 0} (rem : R → Option (List ℕ)) (options : CsvOptions) (text : List ℕ) (rows : List Seen) (old new : Cursor R) (key : List ℕ) → next_key old ≡ Some key → IsAlike old new
     → IsAt rem options text rows old → keys_of old.keys.now rows ++ key ∷ [] ≡ keys_of new.keys.now (rows ++ next_seen old ∷ [])
 keys_on rem options text rows old new key next alike h =
     ap (λ k. keys_of old.keys.now rows ++ k ∷ []) (key_there old.line old.key.items key (row_key old.keys.now (last_cells old)) next h.key)
     ∙ (sym (map-append (λ (s : Seen). row_key old.keys.now s.cells) rows (next_seen old ∷ [])) ∙ ap (λ k. keys_of k (rows ++ next_seen old ∷ [])) (sym (ap (λ (k : Bor (List ℕ)). k.now) alike.keys)))
 
--- what does not move comes behind itself
+-- what does not move comes after itself
 stays : (o : Option (List ℕ)) → ComesBehind key_less o o
 stays None = tt
 stays (Some k) = inl refl

@@ -1,6 +1,6 @@
 -- Texts that are read row by row.
 --
--- Behind the row "7" "1" of the text "id,n", "7,1", "8,2" the row "8" "2" is next, and behind this
+-- After the row "7" "1" of the text "id,n", "7,1", "8,2" the row "8" "2" is next, and after this
 -- there is none.
 use Rattle.std.specs.Prelude.{◌≡◌, ◌⊎◌, ℕ, suc, Bool, true, false, List, [], ◌∷◌, Option, Some}
 use Rattle.std.specs.Prelude.{None, IfSome, All, length, map, option_map, unwrap_or}
@@ -26,7 +26,7 @@ next_seen c = record { cells = last_cells c; line = unwrap_or c.line 0 }
 abbrev pub next_key : {R : Type 0} → Cursor R → Option (List ℕ)
 next_key c = option_map (λ _. c.key.items) c.line
 
--- a key comes behind another: it is greater, or the same where keys may come twice
+-- a key comes after another: it is greater, or the same where keys may come twice
 abbrev pub GoesOn : Bool → List ℕ → List ℕ → Type 0
 GoesOn unique before key = ((unique ≡ false) × (before ≡ key)) ⊎ (key_less before key ≡ true)
 
@@ -35,7 +35,7 @@ pub record AreBelow (keys : List (List ℕ)) (next : Option (List ℕ)) : Type 0
   pub differ : AllDiffer keys
   pub below : All (λ key. ComesBefore key_less key next) keys
 
--- these rows of the text are behind, and the next one is at hand, where there is one
+-- these rows of the text have been passed, and the next one is at hand, where there is one
 pub record IsAt {R : Type 0} (remaining : R → Option (List ℕ)) (options : CsvOptions)
     (text : List ℕ) (rows : List Seen) (c : Cursor R) : Type 0 where
   pub records : List (List (List ℕ))

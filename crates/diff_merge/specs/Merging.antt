@@ -46,7 +46,7 @@ pub record HasFew (n : ℕ) (m : Matching) : Type 0 where
   pub removed : length m.removed.items ≤ n
   pub added : length m.added.items ≤ n
 
--- after n steps these rows of both texts are behind, and a sink has received them
+-- after n steps these rows of both texts have been passed, and a sink has received them
 pub record IsMergeAt {L R S : Type 0} (left_remaining : L → Option (List ℕ))
     (right_remaining : R → Option (List ℕ)) (holds : S → List Seen → List Seen → Matching → Type 0)
     (options : CsvOptions) (left_text right_text : List ℕ) (n : ℕ) (left : Cursor L)

@@ -27,6 +27,6 @@ all_cells rows = map (λ (r : Seen). r.cells) rows
 abbrev pub keys_of : List ℕ → List Seen → List (List ℕ)
 keys_of keys rows = map (λ (r : Seen). row_key keys r.cells) rows
 
--- a row is the one behind these
+-- a row is the one after these
 abbrev pub IsNext : List Seen → Row → Type 0
 IsNext rows r = r.number ≡ suc (length rows)

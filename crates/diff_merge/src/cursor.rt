@@ -159,7 +159,7 @@ impl<'a, R: Read + Drop> Cursor<'a, R> {
         }
     }
 
-    /// Reads the row behind the next one. Fails with `Falls` where its key is less, and with
+    /// Reads the row after the next one. Fails with `Falls` where its key is less, and with
     /// `KeyTwice` where it is the same and keys have to be unique.
     pub fn advance(&mut self) -> Result<(), MergeError>
         requires { IsSome self.old.line }

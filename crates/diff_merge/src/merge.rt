@@ -55,7 +55,8 @@ fn take_pair<L: Read + Drop, R: Read + Drop, S: Sink>(
     right: &mut Cursor<'_, R>,
     sink: &mut S,
 ) -> Result<(), MergeError>
-    requires one_key { (key : List ℕ) × (next_key left.old ≡ Some key) × (next_key right.old ≡ Some key) }
+    requires one_key { (key : List ℕ) × (next_key left.old ≡ Some key)
+        × (next_key right.old ≡ Some key) }
     requires left_side { left.old.side ≡ Left }
     requires right_side { right.old.side ≡ Right }
     ensures step { MatchResult result

@@ -30,7 +30,7 @@ files_object left right = codes "{\"kind\":\"files\",\"left\":" ++ json_string l
 unfoldable pub opening : List ℕ
 opening = HEAD.now ++ STYLE.now ++ BODY.now
 
--- the part of a page behind the report
+-- the part of a page after the report
 unfoldable pub closing : List ℕ
 closing = MIDDLE.now ++ SCRIPT.now ++ END.now
 

@@ -57,7 +57,7 @@ pub(crate) const MIDDLE: &str = r##"</script>
 <script>
 "##;
 
-/// The text behind the script.
+/// The text after the script.
 pub(crate) const END: &str = r##"</script>
 </body>
 </html>

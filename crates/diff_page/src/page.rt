@@ -54,7 +54,7 @@ fn push_opening(out: &mut Vec<u8>) -> Result<(), AllocError>
     Ok(())
 }
 
-/// Appends the part of a page behind the report.
+/// Appends the part of a page after the report.
 fn push_closing(out: &mut Vec<u8>) -> Result<(), AllocError>
     ensures { OnOk result (out.new.items ≡ out.old.items ++ closing) }
 {

@@ -65,7 +65,7 @@ function plain(value) {
   return JSON.stringify(value);
 }
 
-// The words and the characters between them, of which two long texts are compared.
+// The words and the characters between them, by which two long texts are compared.
 const tokens = text => text.match(/\w+|\s+|[^\w\s]/gu) || [];
 
 // Says for each token of two lists whether it is in a longest list that both have.

@@ -1,4 +1,4 @@
--- Rows of cells, w each, that lie one behind another.
+-- Rows of cells, w each, that lie one after another.
 --
 -- Of the cells a, b, c, d row 1 of two cells has c, d.
 use Rattle.std.specs.Prelude.{◌≡◌, ◌*◌, ℕ, List, slice_index}

@@ -9,9 +9,9 @@ pub fn law_one_part()
     ensures { EachKeyHasAPart }
 {}
 
-/// Law: let a test of keys choose the rows that are kept of two tables. All rows whose keys pass are
-/// then kept, in their order. Two kept rows are partners (rows of one key, matched with each other)
-/// exactly where they were before, and a kept row has no partner exactly where it had none.
+/// Law: let a test of keys choose the rows that are kept of two tables. All rows whose keys pass
+/// are then kept, in their order. Two kept rows are partners (rows of one key, matched with each
+/// other) exactly where they were before, and a kept row has no partner exactly where it had none.
 pub fn law_kept_rows()
     ensures places { KeepsPlaces }
     ensures rows { KeepsRows }

@@ -33,7 +33,7 @@ line_of s i j = pair_line (naming_of s) (columns_of s i j) i (row_of s.left i) (
 unfoldable pub changed_line : Sides → Matching → ℕ → List ℕ
 changed_line s m k = line_of s (slice_index m.left_rows.items k) (slice_index m.right_rows.items k)
 
--- the colour of a line with this mark: red behind a minus, and else green
+-- the colour of a line with this mark: red after a minus, and else green
 abbrev pub mark_color : ℕ → Color
 mark_color mark = if mark == 45 then Red else Green
 

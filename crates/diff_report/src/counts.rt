@@ -26,7 +26,7 @@ fn count_pair(counts: &mut Vec<usize>, sides: &Sides, i: usize, j: usize)
     }
 }
 
-/// Counts for each column the pairs at the changed places that differ in it.
+/// Returns for each column the number of changed pairs that differ in it.
 fn counts_of(
     alloc: Global,
     sides: &Sides,
@@ -55,12 +55,13 @@ pub fn count_by_column(
     comparison: &Comparison,
 ) -> Result<Vec<usize>, AllocError>
     requires sides { AreSides sides.now }
-    requires comparison { IsComparison sides.now.keys.items (compared_left sides.now) (compared_right sides.now)
-        comparison.now }
+    requires comparison { IsComparison sides.now.keys.items (compared_left sides.now)
+        (compared_right sides.now) comparison.now }
     ensures counts { IfOk result
         (λ counts. counts.items
         ≡ column_counts sides.now comparison.now.matching comparison.now.changed.items) }
-    ensures as_many { IfOk result (λ counts. length counts.items ≡ length (naming_of sides.now).names) }
+    ensures as_many { IfOk result
+        (λ counts. length counts.items ≡ length (naming_of sides.now).names) }
 {
     let counts = counts_of(alloc, sides, comparison)?;
     Ok(counts)

@@ -42,7 +42,7 @@ pub fn push_pair_line(
     Ok(())
 }
 
-/// Returns the colour of a line with this mark: red behind a minus, and else green.
+/// Returns the colour of a line with this mark: red after a minus, and else green.
 pub fn mark_color(mark: u8) -> Color
     ensures { result ≡ mark_color mark }
 {

@@ -72,7 +72,8 @@ fn push_if_changed(
         then gap (codes ", ") written
         ++ change_text (naming_of sides.now) (row_of sides.now.left i)
         (row_of sides.now.right j) column else [])) }
-    ensures count { IfOk result (λ n. n ≡ written + (if is_apart sides.now i j column then 1 else 0)) }
+    ensures count { IfOk result
+        (λ n. n ≡ written + (if is_apart sides.now i j column then 1 else 0)) }
 {
     if !differ_at(sides, i, j, column) {
         return Ok(written);

@@ -1,4 +1,4 @@
-//! The summary behind the lines.
+//! The summary after the lines.
 
 ghost use Rattle.std.specs.Fmt.{decimal};
 ghost use Rattle.std.specs.Prelude.{◌≡◌, ◌==◌, ◌<◌, ◌≤◌, ◌+◌, ◌++◌, [], if◌then◌else◌, length};
@@ -19,7 +19,7 @@ use polars_arrays_bytes::binary::BinaryArray;
 use polars_arrays_flat::byte_rows::ByteRows;
 use std::alloc::AllocError;
 
-/// How many rows of each kind a comparison has.
+/// The counts of a comparison: pairs of partners, and rows without a partner.
 #[derive(Clone, Copy)]
 pub struct Totals {
     /// The pairs of partners that differ.
@@ -48,7 +48,7 @@ impl Totals {
         }
     }
 
-    /// Returns how many differences there are.
+    /// Returns how many differences there are. In 128 bits, where the sum can't overflow.
     pub fn differences(&self) -> u128
         ensures { (c : Comparison) → AreTotalsOf c self.now
             → result ≡ difference_count c.matching (length c.changed.items) }
@@ -57,7 +57,8 @@ impl Totals {
     }
 }
 
-/// Returns how many differences there are, where `changed` of the matched rows differ.
+/// Returns how many differences there are, if `changed` of the matched rows differ. In 128 bits,
+/// where the sum can't overflow.
 pub fn difference_count(matching: &Matching, changed: usize) -> u128
     ensures { result ≡ difference_count matching.now changed }
 {
@@ -116,7 +117,8 @@ fn push_if_counted(
         (out.new.items ≡ out.old.items
         ++ (if is_counted counts.now column then gap (codes ", ") written
         ++ count_text (offset_strings (λ x. x) names.now) counts.now column else [])) }
-    ensures count { IfOk result (λ n. n ≡ written + (if is_counted counts.now column then 1 else 0)) }
+    ensures count { IfOk result
+        (λ n. n ≡ written + (if is_counted counts.now column then 1 else 0)) }
 {
     if counts[column] == 0 {
         return Ok(written);

@@ -15,7 +15,7 @@ use Rattle.diff_words.specs.declared.formats.Format.TheVariants.{Text, Json}
 use Rattle.diff_run.specs.Lines.{all_lines, end_text}
 use Rattle.diff_run.specs.Run.{differences_text}
 
--- the first lines and what stands behind them are the report
+-- the first lines and what stands after them are the report
 pub in_form : (format : Format) (s : Sides) (c : Comparison) (counts : List ℕ) (limit : ℕ) → concat (take limit (all_lines format s c)) ++ end_text format s c counts limit ≡ differences_text format s c counts limit
 unfolding report_text json_text
 in_form Text s c counts limit =

@@ -26,7 +26,7 @@ above_first x xs h (suc k) within =
     let step : slice_index xs k < slice_index xs (suc k) = h (suc k) (omega (arith, within)) in
     omega (arith, before, step)
 
--- a number behind the first one is above it
+-- a number after the first one is above it
 later_above : (x : ℕ) (xs : List ℕ) (i : ℕ) → IsRising (x ∷ xs) → Contains xs i → x < i
 later_above x xs i h there =
     let (k, within, is) = there in
@@ -34,7 +34,7 @@ later_above x xs i h there =
     let above = above_first x xs h k within in
     omega (arith, at, above)
 
--- a number is the first one, or behind it
+-- a number is the first one, or after it
 first_or_later : (x : ℕ) (xs : List ℕ) (i : ℕ) → Contains (x ∷ xs) i → (x ≡ i) ⊎ Contains xs i
 first_or_later x xs i (zero, within, is) = inl is
 first_or_later x xs i (suc k, within, is) = inr (k, omega (arith, within), is)
@@ -52,7 +52,7 @@ same_first x xs y ys rx ry there back = elim (first_or_later y ys x there) [
   ]
 ]
 
--- what is behind the first number of one list is behind that of the other
+-- what is after the first number of one list is after that of the other
 same_later : (x : ℕ) (xs : List ℕ) (y : ℕ) (ys : List ℕ) (i : ℕ) → x ≡ y → IsRising (x ∷ xs) → Contains xs i → Contains (y ∷ ys) i → Contains ys i
 same_later x xs y ys i e rising here there = elim (first_or_later y ys i there) [
   | inl is ↦ absurd (let low = later_above x xs i rising here in omega (arith, low, is, e))

@@ -115,8 +115,8 @@ fn unknown_name(
     None
 }
 
-/// Returns whether one of the inputs has columns, but none is compared, and none that one input has
-/// alone is reported.
+/// Returns whether nothing is left to compare or to report: an input has columns, but no column is
+/// compared, and none is reported as being in one input alone.
 fn nothing_left(
     left: &BinaryArray<i64>,
     right: &BinaryArray<i64>,
@@ -133,7 +133,8 @@ fn nothing_left(
     !are_bare && layout.left.is_empty() && is_silent
 }
 
-/// Tests that the options choose columns of two inputs. The only error is `Choice`.
+/// Tests that each column that the options name is in one of the inputs, and that something is left
+/// to compare. The only error is `Choice`.
 pub(crate) fn test_heads(heads: &Heads, options: &Options<'_>) -> Result<(), RunError>
     ensures { MatchResult result (λ _. AreChosen options.now heads.now)
         (IsHeadsFault options.now heads.now) }

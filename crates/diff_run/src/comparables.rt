@@ -65,7 +65,7 @@ fn table_by(
     }
 }
 
-/// Returns for each column whether its numbers count.
+/// Returns for each column whether it is compared by the values of numbers, and not as text.
 fn counted(
     alloc: Global,
     names: &BinaryArray<i64>,
@@ -89,8 +89,8 @@ fn counted(
     }
 }
 
-/// Returns the tables that the rows of both inputs are compared by before tolerances, if they are
-/// not compared as they are.
+/// Returns the tables in which the numbers that count are replaced by their normal texts. They are
+/// compared in place of the inputs', before tolerances.
 fn tables_by(
     alloc: Global,
     names: &BinaryArray<i64>,
@@ -110,8 +110,8 @@ fn tables_by(
     Ok(Comparables { left, right })
 }
 
-/// Returns these tables, where cells of the right one that the tolerances allow to differ from
-/// those of their partners are replaced by these.
+/// Returns `tables`, with each cell of the right one that a tolerance allows to differ from its
+/// partner's replaced by the partner's.
 fn with_tolerances(
     alloc: Global,
     names: &BinaryArray<i64>,
@@ -158,8 +158,8 @@ fn compared_exactly(
     }
 }
 
-/// Returns the tables that the rows of both inputs are compared by, if they are not compared as
-/// they are.
+/// Returns the two tables that are compared in place of the inputs', with numbers by value or with
+/// tolerances, or `None` if the inputs are compared as they are.
 #[tactic(auto, using(crate::proofs::ComparableLemmas::compared))]
 pub(crate) fn compared_by(
     alloc: Global,

@@ -38,7 +38,7 @@ impl Drop for Heads {
     }
 }
 
-/// Returns why two inputs are not compared, where their columns are not matched.
+/// Returns the error of a run whose columns can't be matched.
 fn fault_of(error: ColumnError) -> RunError
     ensures { result ≡ fault_of error }
 {
@@ -87,7 +87,9 @@ fn matched<L: Read + Drop, R: Read + Drop>(
     }
 }
 
-/// Matches the columns of two inputs by their names, of which the options choose some.
+/// Returns the names of the columns of two inputs, and how those that the options choose are
+/// matched by name. The error is `Columns` if they can't be matched, `Choice` if the options name
+/// an unknown column or leave nothing to compare, and else `Memory`.
 pub fn heads_of<L: Read + Drop, R: Read + Drop>(
     alloc: Global,
     left: &Source<L>,

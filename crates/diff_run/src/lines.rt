@@ -30,8 +30,8 @@ fn push_pair_at(
     k: usize,
 ) -> Result<(), AllocError>
     requires sides { AreSides sides.now }
-    requires rows { ArePairs sides.now.left.table.rows sides.now.right.table.rows matching.now.left_rows.items
-        matching.now.right_rows.items }
+    requires rows { ArePairs sides.now.left.table.rows sides.now.right.table.rows
+        matching.now.left_rows.items matching.now.right_rows.items }
     requires place { k < length matching.now.left_rows.items }
     ensures { OnOk result
         (out.new.items ≡ out.old.items ++ pair_at format sides.now matching.now k) }

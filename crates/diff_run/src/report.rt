@@ -99,8 +99,8 @@ fn push_all(
     options: &Options<'_>,
 ) -> Result<(), AllocError>
     requires sides { AreSides sides.now }
-    requires comparison { IsComparison sides.now.keys.items (compared_left sides.now) (compared_right sides.now)
-        comparison.now }
+    requires comparison { IsComparison sides.now.keys.items (compared_left sides.now)
+        (compared_right sides.now) comparison.now }
     ensures { IfOk result
         (λ _. out.new.items ≡ out.old.items
         ++ differences_text options.now.format sides.now comparison.now
@@ -124,7 +124,7 @@ fn outcome_of(options: &Options<'_>, layout: &Layout, comparison: &Comparison) -
     outcome::outcome_of(&comparison.matching, &comparison.changed, is_shared)
 }
 
-/// Returns the report of two sides.
+/// Compares two sides, and returns the report and its outcome.
 pub(crate) fn report_of(
     alloc: Global,
     sides: &Sides,

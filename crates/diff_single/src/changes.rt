@@ -53,8 +53,8 @@ pub fn count_changes<L: StringList, R: StringList>(
     requires left { length (L.strings left.now) ≡ length counts.old.items }
     requires right { length (R.strings right.now) ≡ length counts.old.items }
     requires room { All (λ n. n < 2 ^ 64 - 1) counts.old.items }
-    ensures counts { AddsWhere (differ_at (L.strings left.now) (R.strings right.now)) counts.old.items
-        counts.new.items }
+    ensures counts { AddsWhere (differ_at (L.strings left.now) (R.strings right.now))
+        counts.old.items counts.new.items }
     ensures same { result ≡ false → L.strings left.now ≡ R.strings right.now }
     ensures apart { result ≡ true → ¬ (L.strings left.now ≡ R.strings right.now) }
 {

@@ -15,7 +15,7 @@ use diff_tables::table::Table;
 use polars_arrays_bytes::binary::BinaryArray;
 use std::alloc::{AllocError, Global};
 
-/// Returns the table of one row of these cells.
+/// Returns a table with one row, which has these cells.
 fn table_of<L: StringList>(alloc: Global, cells: &L) -> Result<Table, AllocError>
     ensures { IfOk result
         (λ t. (t.width ≡ length (L.strings cells.now)) × (t.rows ≡ L.strings cells.now ∷ [])) }

@@ -1,4 +1,4 @@
--- A report behind the last row.
+-- A report after the last row.
 use Rattle.std.proofs.Common.{◌≡◌, ◌∙◌, ◌+◌, ℕ, List, ◌++◌, length, map, take, ap, arith, sym, subst, refl}
 use Rattle.std.proofs.lemmas.List.{length-map}
 use Rattle.std.proofs.lemmas.Bool.Decides.{nat_tests}
@@ -26,7 +26,7 @@ tells_all r left_rows right_rows s c h = subst (λ places. Tells r s c.matching 
 pub count_is : {X : Type 0} (f : X → List ℕ) (xs : List X) (limit : ℕ) (l : Lines) → HasLines limit (map f xs) l → l.count ≡ length xs
 count_is f xs limit l h = h.count ∙ length-map xs f
 
--- lines that are written behind a text
+-- lines that are written after a text
 pub first_written : {X : Type 0} (f : X → List ℕ) (xs : List X) (room : ℕ) (old lines new : List ℕ) → lines ≡ concat (take room (map f xs)) → new ≡ old ++ lines → new ≡ old ++ flat_map f (take room xs)
 first_written f xs room old lines new is written = written ∙ ap (λ l. old ++ l) (is ∙ first_of_one f room xs)
 

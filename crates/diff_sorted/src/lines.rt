@@ -6,19 +6,19 @@ ghost use Rattle.diff_sorted.specs.Lines.{HasLines, IsClosed, IsPassed};
 
 use std::alloc::{AllocError, Global};
 
-/// The lines of the first differences of a kind, and how many differences of it there are.
+/// The lines of the first differences of one kind, and the count of all differences of that kind.
 #[derive(Drop)]
 pub struct Lines {
-    /// The lines, one behind another.
+    /// The lines, one after another.
     pub(crate) text: Vec<u8>,
-    /// Where each of them ends.
+    /// The end of each line in `text`.
     pub(crate) ends: Vec<usize>,
-    /// How many differences there are, with those that have no line.
+    /// The number of differences, those without a line included.
     pub(crate) count: usize,
 }
 
 impl Lines {
-    /// Returns the lines of no differences.
+    /// Returns no lines and the count 0.
     pub fn new(alloc: Global) -> Lines
         ensures { (limit : ℕ) → HasLines limit [] result }
     {
@@ -29,7 +29,7 @@ impl Lines {
         }
     }
 
-    /// Counts one difference more, which has no line.
+    /// Counts one more difference, without a line. Fails if the count overflows.
     pub(crate) fn pass(&mut self) -> Result<(), AllocError>
         ensures { OnOk result (IsPassed self.old self.new) }
     {
@@ -40,7 +40,7 @@ impl Lines {
         Ok(())
     }
 
-    /// Counts one difference more, whose line is written behind the others.
+    /// Counts one more difference, and ends its line, which was appended to `text`.
     pub(crate) fn close(&mut self) -> Result<(), AllocError>
         ensures { OnOk result (IsClosed self.old self.new) }
     {
@@ -50,7 +50,8 @@ impl Lines {
         Ok(())
     }
 
-    /// Returns the first `room` lines, where at least as many may be shown.
+    /// Returns the first `room` lines, or all if there are fewer. `room` is at most the limit of
+    /// lines that were kept.
     pub fn first(&self, room: usize) -> &[u8]
         ensures { (limit : ℕ) (all : List (List ℕ)) → room ≤ limit → HasLines limit all self.now
             → result.now ≡ concat (take room all) }

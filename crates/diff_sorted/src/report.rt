@@ -17,14 +17,14 @@ use diff_tables::string_list::StringList;
 use polars_arrays_flat::byte_rows::ByteRows;
 use std::alloc::{AllocError, Global};
 
-/// The most rows that a report is told of.
+/// The most rows that a report takes.
 const MOST_ROWS: u64 = 1 << 62;
 
 /// The report of two sorted texts: the lines of the first differences, and the counts.
 #[derive(Drop)]
 pub struct SortedReport<'a> {
     pub(crate) alloc: Global,
-    /// What the differences share.
+    /// The names and options that all lines share.
     pub(crate) frame: Frame<'a>,
     /// The most differences of a kind that have a line.
     pub(crate) limit: usize,
@@ -34,9 +34,9 @@ pub struct SortedReport<'a> {
     pub(crate) removed: Lines,
     /// The right rows that have no partner.
     pub(crate) added: Lines,
-    /// How many pairs of partners are the same.
+    /// The number of pairs of partners that are the same.
     pub(crate) same: usize,
-    /// How often each column differs.
+    /// For each column, the number of pairs in which it differs.
     pub(crate) counts: Vec<usize>,
 }
 
@@ -52,7 +52,7 @@ fn are_below(numbers: &[usize], bound: usize) -> bool
     true
 }
 
-/// Returns the number behind `n`.
+/// Returns `n + 1`, or an error if it overflows.
 fn one_more(n: usize) -> Result<usize, AllocError>
     ensures { IfOk result (λ m. m ≡ suc n) }
 {

@@ -61,7 +61,7 @@ fn test_options(options: &Options<'_>) -> Result<(), SortedError>
     Ok(())
 }
 
-/// Lends what a report has beside the rows.
+/// Returns the names and options that all lines of a report share, borrowed from `frame`.
 fn lent<'a>(frame: &'a Frame, options: &Options<'_>) -> frame::Frame<'a>
     ensures { IsLentFrame options.now frame.now result }
 {
@@ -76,7 +76,7 @@ fn lent<'a>(frame: &'a Frame, options: &Options<'_>) -> frame::Frame<'a>
     }
 }
 
-/// Merges the rows of two sorted inputs, and tells a report of them.
+/// Merges the rows of two sorted inputs, and returns the report that received them.
 fn told_of<'f, L: Read + Drop, R: Read + Drop>(
     alloc: Global,
     left: Source<L>,
@@ -119,7 +119,7 @@ fn told_of<'f, L: Read + Drop, R: Read + Drop>(
     Ok(report)
 }
 
-/// Returns whether no column makes a difference.
+/// Returns whether no column is in one input alone, or such columns are left out.
 fn are_shared(options: &Options<'_>, layout: &Layout) -> bool
     ensures { result ≡ options.now.common || no_columns layout.now }
 {
@@ -127,7 +127,7 @@ fn are_shared(options: &Options<'_>, layout: &Layout) -> bool
     options.common || same_columns
 }
 
-/// Returns `Same` where no row and no column makes a difference.
+/// Returns `Same` if the rows and the columns are the same, and `Different` otherwise.
 fn outcome_by(same_rows: bool, same_columns: bool) -> Outcome
     ensures { result ≡ if same_rows then (if same_columns then Same else Different) else Different }
 {
@@ -140,7 +140,7 @@ fn outcome_by(same_rows: bool, same_columns: bool) -> Outcome
     Outcome::Same
 }
 
-/// Returns what the report comes to.
+/// Returns the outcome of a report: whether the two inputs are the same.
 fn outcome_of(options: &Options<'_>, layout: &Layout, report: &SortedReport<'_>) -> Outcome
     ensures { (left_rows right_rows : List Seen) (s : Sides) (c : Comparison)
         → IsToldAs report.now left_rows right_rows s c
@@ -149,7 +149,7 @@ fn outcome_of(options: &Options<'_>, layout: &Layout, report: &SortedReport<'_>)
     outcome_by(report.is_same(), are_shared(options, layout))
 }
 
-/// Returns the report of two inputs of which all rows were told.
+/// Returns the whole report of two inputs from `told`, which received all their rows.
 fn report_of(
     alloc: Global,
     heads: &Heads,

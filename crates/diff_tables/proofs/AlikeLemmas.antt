@@ -1,4 +1,4 @@
--- The bytes of strings that lie one behind another, and the pairs of rows that are not stored alike.
+-- The bytes of strings that lie one after another, and the pairs of rows that are not stored alike.
 use Rattle.std.proofs.Common.{◌≡◌, ◌<◌, ◌≤◌, ◌+◌, ◌-◌, ◌*◌, ℕ, zero, suc, Bool, true, false, List, [], ◌∷◌, ◌++◌, Option, Some, None, length, get_or, take, drop, map, arith, ap, sym, subst, ◌∙◌, refl, ◌⊎◌, inl, inr, ◌≢◌, add-one}
 use Rattle.std.proofs.Math.Seq.{drop-append_seam, drop-cons, take-add, take-append_seam}
 use Rattle.std.proofs.lemmas.Bool.{cases_eq}
@@ -49,7 +49,7 @@ pub record LieBetween (all : List (Option ℕ)) (values : List ℕ) (at n end : 
   pub bound : IsBound (length values) (place_at all at) (place_at all end)
   pub bytes : window (number (place_at all at)) (number (place_at all end) - number (place_at all at)) values ≡ all_bytes (window at n (strings_between all values))
 
--- bytes up to a place, and those behind it
+-- bytes up to a place, and those after it
 two_windows : (xs : List ℕ) (a m b : ℕ) → a ≤ m → m ≤ b → window a (b - a) xs ≡ window a (m - a) xs ++ window m (b - m) xs
 two_windows xs a m b am mb =
     let both : b - a ≡ (m - a) + (b - m) = omega (arith, am, mb) in
@@ -62,7 +62,7 @@ two_windows xs a m b am mb =
 string_there : (values : List ℕ) (all : List (Option ℕ)) (at a b : ℕ) → place_at all at ≡ Some a → place_at all (at + 1) ≡ Some b → string_between all values at ≡ window a (b - a) values
 string_there values all at a b from to = rw (from, to) refl
 
--- a string, and those behind it
+-- a string, and those after it
 one_before : (all : List (Option ℕ)) (values : List ℕ) (n at end : ℕ) → IsBound (length values) (place_at all at) (place_at all (at + 1)) → at < row_count all
     → LieBetween all values (at + 1) n end → LieBetween all values at (suc n) end
 one_before all values n at end first below rest = record {

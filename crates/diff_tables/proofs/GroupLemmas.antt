@@ -95,7 +95,7 @@ pub length_places : (ends : List ℕ) → length (places_of ends) ≡ length end
 length_places [] = refl
 length_places (x ∷ xs) = ap suc (length_places xs)
 
--- the end behind end k
+-- the end after end k
 next_end : (ends : List ℕ) (k : ℕ) → k + 1 < length ends → place_at (places_of ends) (k + 1) ≡ Some (get_or ends (suc k) 0)
 next_end ends k h = rw add-one (place_end ends (suc k) (omega (arith, h)))
 

@@ -1,4 +1,4 @@
--- Strings that are stored alike: with the same lengths, and with the same bytes one behind another.
+-- Strings that are stored alike: with the same lengths, and with the same bytes one after another.
 --
 -- The strings "ab", "c" and the strings "a", "bc" have the same bytes, but not the same lengths.
 use Rattle.std.specs.List.{Contains, flat_map}
@@ -6,7 +6,7 @@ use Rattle.std.specs.Prelude.{◌≡◌, ◌<◌, ◌≤◌, ◌+◌, ◌-◌, �
 use Rattle.std.specs.Prelude.{[], length, get_or, slice_index}
 use Rattle.polars_arrays_flat.specs.Validity.{window}
 
--- the bytes of strings, one string's behind another's
+-- the bytes of strings, one string's after another's
 abbrev pub all_bytes : List (List ℕ) → List ℕ
 all_bytes strings = flat_map (λ s. s) strings
 

@@ -4,7 +4,7 @@
 -- 0 0 and "ab" 0 0 "c" 0 0, which differ.
 use Rattle.std.specs.Prelude.{ℕ, zero, suc, List, [], ◌∷◌, ◌++◌, get_or, map}
 
--- a byte, and a 1 behind a zero
+-- a byte, and a 1 after a zero
 abbrev pub marked : ℕ → List ℕ
 marked zero = 0 ∷ 1 ∷ []
 marked (suc b) = suc b ∷ []

@@ -104,8 +104,8 @@ fn lengths_agree<L: Offset, R: Offset>(
     Ok(flags)
 }
 
-/// Appends the pairs from `start` up to `end` that are not stored alike. `as_long` says for each
-/// pair whether the strings of its two rows have the same lengths.
+/// Appends the places of the pairs from `start` up to `end` that are not stored alike. `as_long`
+/// says for each pair whether the strings of its two rows have the same lengths.
 fn push_unlike<L: Offset, R: Offset>(
     places: &mut Vec<usize>,
     left: &BinaryArray<L>,
@@ -122,8 +122,8 @@ fn push_unlike<L: Offset, R: Offset>(
     requires right { NameRowsOf width (offset_strings R.value right.now) right_rows.now }
     requires rise { start ≤ end }
     requires within { end ≤ length left_rows.now }
-    requires as_long { TellLengths width (offset_strings L.value left.now) (offset_strings R.value right.now)
-        left_rows.now right_rows.now start end as_long.now }
+    requires as_long { TellLengths width (offset_strings L.value left.now)
+        (offset_strings R.value right.now) left_rows.now right_rows.now start end as_long.now }
     ensures { OnOk result
         (ListsAllBut
         (AreSameCells width (offset_strings L.value left.now) (offset_strings R.value right.now)
@@ -144,7 +144,8 @@ fn push_unlike<L: Offset, R: Offset>(
     Ok(())
 }
 
-/// Lists the pairs of rows of `width` strings each that are not stored alike.
+/// Returns the places of the pairs of rows, of `width` strings each, that are not stored with the
+/// same lengths and bytes. The rows of each pair that is left out are the same.
 pub(crate) fn unlike_pairs<L: Offset, R: Offset>(
     alloc: Global,
     left: &BinaryArray<L>,

@@ -46,7 +46,7 @@ impl Model for Cells {
 }
 
 impl Cells {
-    /// Returns the strings of an array, whose bytes these are.
+    /// Creates cells from an array and its bytes, whose ends have 32 bits.
     pub(crate) fn near(array: BinaryArray<i32>, bytes: Buffer<u8>) -> Cells
         requires present { array.validity ≡ None }
         requires bytes { bytes.items ≡ array.values }
@@ -57,7 +57,7 @@ impl Cells {
         }
     }
 
-    /// Returns the strings of an array.
+    /// Creates cells from an array whose ends have 64 bits.
     pub(crate) fn far(array: BinaryArray<i64>) -> Cells
         requires { array.validity ≡ None }
         ensures { result ≡ record { strings = offset_strings (λ x. x) array; far = true } }
@@ -67,7 +67,7 @@ impl Cells {
         }
     }
 
-    /// Returns how many strings there are.
+    /// Returns the number of strings.
     pub(crate) fn count(&self) -> usize
         ensures { result ≡ length self.now.strings }
     {

@@ -7,7 +7,7 @@ pub trait StringList {
     // The strings, the first one first.
     ghost strings: { Self → List (List ℕ) };
 
-    /// Returns how many strings there are.
+    /// Returns the number of strings.
     fn count(&self) -> usize
         ensures { result ≡ length (strings self.now) };
 

@@ -19,7 +19,7 @@ use std::alloc::{AllocError, Global};
 /// bytes below 2^31, and 8 from there on.
 #[derive(Drop)]
 pub struct Strings {
-    // A 0, and behind it the ends of the first strings, as long as they fit 32 bits.
+    // A 0, and after it the ends of the first strings, as long as they fit 32 bits.
     ends: Vec<i32>,
     // The ends of the later strings.
     far_ends: Vec<i64>,

@@ -14,7 +14,7 @@ use Rattle.json_tolerances.specs.declared.closeness.Margin.{Margin}
 use Rattle.diff_numbers.specs.Cells.{is_number}
 use Rattle.diff_tolerances.specs.declared.cells.Tolerance.{Tolerance}
 
--- an exponent of at most 30 digits behind its zeros
+-- an exponent of at most 30 digits after its zeros
 abbrev pub has_narrow_exponent : List ℕ → Bool
 has_narrow_exponent s = nat_lt (digits_value 10 (parts_of s).exponent) (10 ^ 30)
 

@@ -1,7 +1,7 @@
 -- The rows that right rows are compared by.
 --
 -- With the columns "id", "n" and a tolerance of 0.1 for "n", the right row "a" "7.05" is compared
--- by "a" "7.0" beside its partner "a" "7.0", and by itself beside "a" "8" or without a partner.
+-- by "a" "7.0" beside its partner "a" "7.0", and as it is beside "a" "8" or without a partner.
 use Rattle.std.specs.List.{range_with_len}
 use Rattle.std.specs.Prelude.{◌≡◌, ℕ, List, [], Option, None, Some, length, get_or, map, option_map}
 use Rattle.diff_columns.specs.Names.{Names}

@@ -58,8 +58,8 @@ fn matched(
     }
 }
 
-/// Returns for each number below `count` the left row that stands beside it, where it is listed
-/// among the right rows, or `None`.
+/// Returns for each of `count` right rows the left row that is listed at the same place, or `None`
+/// if the right row is not listed.
 fn rows_beside(
     alloc: Global,
     left_rows: &[u32],

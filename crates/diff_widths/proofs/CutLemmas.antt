@@ -22,7 +22,7 @@ first_of_rest cs i c within is = drop_more cs i c within ∙ ap (λ x. x ∷ dro
 pub counted : (cs : List ℕ) (i c total all : ℕ) → i < length cs → c ≡ get_or cs i c → total + width (drop i cs) ≡ all → (total + char_columns c) + width (drop (i + 1) cs) ≡ all
 counted cs i c total all within is e = let first = ap width (first_of_rest cs i c within is) in omega (arith, first, e)
 
--- behind the last one nothing is still to be counted
+-- after the last one nothing is still to be counted
 pub all_counted : (cs : List ℕ) (i total all : ℕ) → length cs ≤ i → total + width (drop i cs) ≡ all → total ≡ all
 all_counted cs i total all past e = let none = ap width (drop_of_length-le cs past) in omega (arith, none, e)
 

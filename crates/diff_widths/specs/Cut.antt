@@ -42,7 +42,7 @@ cut room text = if nat_le (width text) room then text else shortened room text
 abbrev pub spaces : ℕ → List ℕ
 spaces n = replicate n 32
 
--- the spaces that fill the room behind a text
+-- the spaces that fill the room after a text
 abbrev pub filler : ℕ → List ℕ → List ℕ
 filler room text = spaces (room - width text)
 

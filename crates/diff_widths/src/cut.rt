@@ -100,7 +100,7 @@ fn push_spaces(out: &mut Vec<char>, n: usize) -> Result<(), AllocError>
     Ok(())
 }
 
-/// Appends the spaces that fill the room behind a text.
+/// Appends the spaces that fill the room after a text.
 pub fn push_filler(out: &mut Vec<char>, text: &[char], room: usize) -> Result<(), AllocError>
     ensures { OnOk result (out.new.items ≡ out.old.items ++ filler room text.now) }
 {

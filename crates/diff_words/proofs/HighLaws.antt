@@ -35,7 +35,7 @@ letter_low false false false true t letter e = let same : 114 ≡ letter = cc in
 letter_low false false false false true letter e = let same : 116 ≡ letter = cc in omega (arith, same)
 letter_low false false false false false letter e = absurd (cc)
 
--- behind a byte no more is a control character than behind another one
+-- after a byte no more is a control character than after another one
 abbrev IsNoWorse : ℕ → ℕ → Type 0
 IsNoWorse p q = (c : ℕ) → is_high_control q c ≡ false → is_high_control p c ≡ false
 

@@ -22,7 +22,7 @@ listed_push separator (y ∷ ys) x n e =
     let end : flat_map (λ t. separator ++ t) (ys ++ x ∷ []) ≡ flat_map (λ t. separator ++ t) ys ++ ((separator ++ x) ++ []) = flat_map-append (λ t. separator ++ t) ys (x ∷ []) in
     rw (e, end, append-nil (separator ++ x), append_assoc (y ++ flat_map (λ t. separator ++ t) ys) separator x, append_assoc y (flat_map (λ t. separator ++ t) ys) (separator ++ x)) refl
 
--- an element more, behind what was written before the list
+-- an element more, after what was written before the list
 pub listed_more : (separator old : List ℕ) (xs : List (List ℕ)) (x : List ℕ) (n : ℕ) → n ≡ length xs
     → ((old ++ listed separator xs) ++ gap separator n) ++ x ≡ old ++ listed separator (xs ++ x ∷ [])
 listed_more separator old xs x n e =

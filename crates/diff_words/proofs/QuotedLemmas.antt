@@ -16,12 +16,12 @@ byte_written all now after before b next bytes i within rest a e n =
     let both : texts_behind before (drop i bytes) ≡ byte_text before b next ++ texts_behind b (drop (i + 1) bytes) = rw (e, n, ← look) step in
     ap (λ l. l ++ texts_behind b (drop (i + 1) bytes)) a ∙ (append_assoc now (byte_text before b next) (texts_behind b (drop (i + 1) bytes)) ∙ (ap (λ l. now ++ l) (sym both) ∙ rest))
 
--- behind the last byte nothing is still to be written
+-- after the last byte nothing is still to be written
 pub all_written : (all now : List ℕ) (before : ℕ) (bytes : List ℕ) (i : ℕ) → length bytes ≤ i → now ++ texts_behind before (drop i bytes) ≡ all → now ≡ all
 all_written all now before bytes i past rest =
     let none : drop i bytes ≡ [] = drop_of_length-le bytes past in
     sym (append-nil now) ∙ (ap (λ l. now ++ texts_behind before l) (sym none) ∙ rest)
 
--- a quote before and behind, after what was written before
+-- a quote on each side, after what was written before
 pub quotes_around : (old texts : List ℕ) → ((old ++ 34 ∷ []) ++ texts) ++ 34 ∷ [] ≡ old ++ (34 ∷ texts ++ 34 ∷ [])
 quotes_around old texts = append_assoc (old ++ 34 ∷ []) texts (34 ∷ []) ∙ append_assoc old (34 ∷ []) (texts ++ 34 ∷ [])

@@ -6,7 +6,7 @@ use Rattle.std.specs.Fmt.{digit_glyph}
 use Rattle.std.specs.Prelude.{ℕ, ◌/◌, ◌%◌, ◌==◌, Bool, false, ◌&&◌, ◌||◌, nat_lt, if◌then◌else◌}
 use Rattle.std.specs.Prelude.{List, [], ◌∷◌, ◌++◌, get_or, Option, Some, None}
 
--- the letter that stands behind a backslash for a quote, a backslash, a line feed, a carriage
+-- the letter that stands after a backslash for a quote, a backslash, a line feed, a carriage
 -- return and a tab
 abbrev pub letter_of : ℕ → Option ℕ
 letter_of b = if b ==
@@ -40,7 +40,7 @@ text_by None hidden b = if hidden then hex_text b else b ∷ []
 unfoldable pub byte_text : ℕ → ℕ → ℕ → List ℕ
 byte_text before b after = text_by (letter_of b) (is_hidden before b after) b
 
--- the bytes of a quoted text that stand behind another one, where 0 stands for none
+-- the bytes of a quoted text that stand after another one, where 0 stands for none
 abbrev pub texts_behind : ℕ → List ℕ → List ℕ
 texts_behind before [] = []
 texts_behind before (b ∷ bs) = byte_text before b (get_or bs 0 0) ++ texts_behind b bs

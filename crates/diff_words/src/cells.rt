@@ -1,4 +1,4 @@
-//! Cells.
+//! Cells, as reports print them.
 
 ghost use Rattle.std.specs.Option.{option_map};
 ghost use Rattle.std.specs.Prelude.{◌≡◌, ◌++◌, OnOk};
@@ -9,7 +9,7 @@ use crate::colors::{Color, push_color};
 use crate::quoted::push_quoted;
 use std::alloc::AllocError;
 
-/// Returns whether a cell is the one that stands for no value.
+/// Returns whether a cell is the word that stands for no value (`--null`), if one is given.
 pub fn is_null(null: &Option<Vec<u8>>, cell: &[u8]) -> bool
     ensures { result ≡ is_null (option_map (λ v. v.items) null.now) cell.now }
 {
@@ -19,7 +19,7 @@ pub fn is_null(null: &Option<Vec<u8>>, cell: &[u8]) -> bool
     }
 }
 
-/// Appends a cell between quotes, or `null` if it is the cell that stands for no value.
+/// Appends a cell between quotes, or `null` if it is the word that stands for no value.
 #[tactic(auto, unfolding(crate::specs::Cells::cell_text))]
 pub fn push_cell(out: &mut Vec<u8>, null: &Option<Vec<u8>>, cell: &[u8]) -> Result<(), AllocError>
     ensures { OnOk result

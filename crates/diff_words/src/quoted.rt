@@ -7,7 +7,7 @@ ghost use Rattle.diff_words.specs.Quoted.{letter_of, quoted};
 
 use std::alloc::AllocError;
 
-/// Returns the letter that stands behind a backslash for a byte.
+/// Returns the letter that stands after a backslash for a byte.
 fn letter_of(byte: u8) -> Option<u8>
     ensures { result ≡ letter_of byte }
 {

@@ -23,7 +23,7 @@ exponent_short s =
     let b = cond point (digits_end s (a + 1)) a in
     part_short s (exponent_start s b) (digits_end s (exponent_start s b)) (has_exponent s b)
 
--- and what stands behind its sign
+-- and what stands after its sign
 unsigned_short : (s : List ℕ) (negative : Bool) → length (cond negative (drop 1 s) s) ≤ length s
 unsigned_short s true = omega (arith, length-drop 1 s)
 unsigned_short s false = omega arith

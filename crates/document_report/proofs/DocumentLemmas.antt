@@ -31,7 +31,7 @@ document_at t i h within =
     let line : line_at t i ≡ get_or lines i [] = ap (λ r. get_or r (t.width - 1) []) row ∙ last_cell keys (get_or lines i []) (t.width - 1) place in
     (reading, keys, subst (IsDocument reading keys) (sym line) (All-get_or (IsWanted reading keys) lines i [] inside rows.documents).document)
 
--- so is the cell behind those of the keys
+-- so is the cell after those of the keys
 pub document_in : (t : TableRows) (i n : ℕ) (cell : List ℕ) → HoldsDocuments t → i < length t.rows → t.width ≡ suc n → cell ≡ get_or (get_or t.rows i []) n [] → (reading : Reading) × (keys : List Path) × IsDocument reading keys cell
 document_in t i n cell h within width read =
     let place : n ≡ t.width - 1 = omega (arith, width) in

@@ -20,7 +20,7 @@ use Rattle.document_report.specs.Report.{difference_lines, document_report_text}
 joined : (a b c d : List ℕ) → a ++ ((b ++ c) ++ d) ≡ ((a ++ b) ++ c) ++ d
 joined a b c d = sym (ap (λ l. l ++ d) (append_assoc a b c) ∙ append_assoc a (b ++ c) d)
 
--- the first lines and what stands behind them are the report
+-- the first lines and what stands after them are the report
 pub in_form : (format : Format) (s : DocumentSides) (m : Matching) (changed : List ℕ) (limit : ℕ)
     → concat (take limit (all_lines format s m changed)) ++ end_text format s m (length changed) limit ≡ format_text format s m changed limit
 unfolding document_report_text document_json_text

@@ -19,7 +19,7 @@ all_lines format s m changed = map (pair_at format s m) changed
     ++ map (document_alone format Removed s s.left) m.removed.items
     ++ map (document_alone format Added s s.right) m.added.items
 
--- the text behind the lines of differences, where this number of documents is changed: the number
+-- the text after the lines of differences, where this number of documents is changed: the number
 -- of differences without a line, and the counts
 abbrev pub end_text : Format → DocumentSides → Matching → ℕ → ℕ → List ℕ
 end_text Text s m changed limit = rest_text limit (difference_count m changed)

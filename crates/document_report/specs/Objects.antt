@@ -1,6 +1,7 @@
 -- The report of a comparison of documents as JSON lines.
 --
--- {"kind":"changed","key":{"order.id":"A-7"},"left_line":1,"right_line":4,"changes":[{"path":"tags[1]","left":"new"}]}
+-- {"kind":"changed","key":{"order.id":"A-7"},"left_line":1,"right_line":4,
+--  "changes":[{"path":"tags[1]","left":"new"}]}
 -- {"kind":"removed","key":{"order.id":"A-9"},"line":12}
 -- {"kind":"counts","changed":1,"removed":1,"added":1,"same":5,"not_shown":1}
 use Rattle.std.specs.List.{concat}

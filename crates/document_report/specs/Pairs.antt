@@ -1,7 +1,8 @@
 -- The lines of two documents that differ.
 --
 -- ~ order.id="A-7"  items[2].price 9.5 -> 9.75, tags[1] "new" -> missing
--- {"kind":"changed","key":{"order.id":"A-7"},"left_line":1,"right_line":4,"changes":[{"path":"items[2].price","left":9.5,"right":9.75},{"path":"tags[1]","left":"new"}]}
+-- {"kind":"changed","key":{"order.id":"A-7"},"left_line":1,"right_line":4,
+--  "changes":[{"path":"items[2].price","left":9.5,"right":9.75},{"path":"tags[1]","left":"new"}]}
 -- In colours ~ order.id="A-7" is yellow.
 use Rattle.std.specs.Fmt.{decimal}
 use Rattle.std.specs.Prelude.{ℕ, Bool, false, List, [], ◌∷◌, ◌++◌, map, slice_index, codes}

@@ -45,7 +45,7 @@ fn push_lines(
     Ok(())
 }
 
-/// Appends the text behind the lines, where `changed` of the matched documents differ. In text this
+/// Appends the text after the lines, where `changed` of the matched documents differ. In text this
 /// is the number of further differences, the summary, and the number of lines that are passed over.
 /// In JSON it is the counts.
 fn push_end(

@@ -67,7 +67,7 @@ same_lines P lines line numbers h =
         get_or-map (numbered_line (lines ++ line ∷ [])) numbers i 0 [] inside
         ∙ (same_line lines line n is.1.0 is.0 ∙ sym (get_or-map (numbered_line lines) numbers i 0 [] inside))
 
--- and with that line behind them where its number is one more
+-- and with that line after them where its number is one more
 pub lines_more : (P : List ℕ → Type 0) (lines : List (List ℕ)) (line : List ℕ) (numbers : List ℕ) → AreNumbersOf P lines numbers
     → numbered_lines (lines ++ line ∷ []) (numbers ++ suc (length lines) ∷ []) ≡ numbered_lines lines numbers ++ line ∷ []
 lines_more P lines line numbers h =

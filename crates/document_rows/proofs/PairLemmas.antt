@@ -106,7 +106,7 @@ reached {Differ} {Other} {n} {changed} kinds i found h inside = raised Other h.b
         let (t, there, is) = stands kinds k (omega (arith, low, top)) other in
         at k t high low there is (cases_lt t i) (cases_lt i t)
 
--- the bound behind the next changed place
+-- the bound after the next changed place
 moved : {Differ Other : ℕ → Type 0} {n : ℕ} {changed : List ℕ} → AreKinds Differ Other n changed → (i : ℕ) (found more : List ℕ)
     → IsProgress Other n changed i found → i < length changed → ListsRising Other (suc (slice_index changed i)) more → IsProgress Other n changed (i + 1) more
 moved {Differ} {Other} {n} {changed} kinds i found more h inside listed = record {

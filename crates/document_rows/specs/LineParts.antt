@@ -1,7 +1,7 @@
 -- A line that is read part by part, as a reader has it at hand.
 --
 -- Of "ab", 10, "c" a reader may have "a" at hand: the line goes on, and "b", 10, "c" is left. Then
--- it may have all the rest: the line ends behind "b", and "c" is left.
+-- it may have all the rest: the line ends after "b", and "c" is left.
 use Rattle.std.specs.Prelude.{◌≡◌, ◌≢◌, ℕ, List, [], ◌∷◌, ◌++◌, All, Option, Some}
 use Rattle.document_rows.specs.declared.lines.Part.{Part}
 use Rattle.document_rows.specs.declared.lines.Part.TheVariants as part

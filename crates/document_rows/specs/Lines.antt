@@ -8,7 +8,7 @@ abbrev pub before_first : ℕ → List (List ℕ) → List (List ℕ)
 before_first b [] = (b ∷ []) ∷ []
 before_first b (line ∷ lines) = (b ∷ line) ∷ lines
 
--- the lines of a text, each without its line feed; the text behind the last line feed is a line if
+-- the lines of a text, each without its line feed; the text after the last line feed is a line if
 -- it is not empty
 unfoldable pub lines_of : List ℕ → List (List ℕ)
 lines_of [] = []

@@ -171,7 +171,8 @@ impl Rows {
             → HoldsRows reading (paths_view keys.now) lines self.old
             → HoldsRows reading (paths_view keys.now) (lines ++ line.now ∷ []) self.new)
             (IsTrouble reading (paths_view keys.now) line.now) }
-        ensures unchanged { IfErr result (λ trouble. ¬ IsTroubleMemory trouble → self.new ≡ self.old) }
+        ensures unchanged { IfErr result
+            (λ trouble. ¬ IsTroubleMemory trouble → self.new ≡ self.old) }
     {
         let Rooms { scratch, room } = rooms;
         let value = document_in(alloc, line, keys, reading, scratch, &mut room.number)?;

@@ -96,9 +96,11 @@ pub fn differing_pairs(
 ) -> Result<Vec<usize>, AllocError>
     requires left { HoldsDocuments left.now }
     requires right { HoldsDocuments right.now }
-    requires comparison { (columns : List ℕ) × IsComparison columns left.now.rows right.now.rows comparison.now }
+    requires comparison { (columns : List ℕ)
+        × IsComparison columns left.now.rows right.now.rows comparison.now }
     ensures { IfOk result (λ pairs. ListsRising (IsOtherDocument (rules_view rules.now)
-        left.now right.now comparison.now.matching.left_rows.items comparison.now.matching.right_rows.items)
+        left.now right.now comparison.now.matching.left_rows.items
+        comparison.now.matching.right_rows.items)
         (length comparison.now.matching.left_rows.items) pairs.items) }
 {
     let mut scratches = Scratches::new(alloc)?;

@@ -241,7 +241,8 @@ fn read_unknown<R: Read + Drop>(
     known: &Known<'_>,
 ) -> Result<Documents, ReadError>
     requires { KnowsLines reading (paths_view keys.now) known.now }
-    ensures shape { IfOk result (λ d. HaveDocuments reading (paths_view keys.now) d.table d.lines.items) }
+    ensures shape { IfOk result
+        (λ d. HaveDocuments reading (paths_view keys.now) d.table d.lines.items) }
     ensures documents { MatchResult result
         (λ d. (text : List ℕ) → R.remaining reader ≡ Some text
         → AreDocumentsOf text reading (paths_view keys.now) d.table d.lines.items
@@ -269,7 +270,8 @@ pub fn read_documents<R: Read + Drop>(
     keys: &[Path],
     reading: Reading,
 ) -> Result<Documents, ReadError>
-    ensures shape { IfOk result (λ d. HaveDocuments reading (paths_view keys.now) d.table d.lines.items) }
+    ensures shape { IfOk result
+        (λ d. HaveDocuments reading (paths_view keys.now) d.table d.lines.items) }
     ensures documents { MatchResult result
         (λ d. (text : List ℕ) → R.remaining reader ≡ Some text
         → AreDocumentsOf text reading (paths_view keys.now) d.table d.lines.items
@@ -292,7 +294,8 @@ pub fn read_documents_beside<R: Read + Drop>(
     table: &Table,
 ) -> Result<Documents, ReadError>
     requires { HoldsDocumentsOf reading (paths_view keys.now) table.now }
-    ensures shape { IfOk result (λ d. HaveDocuments reading (paths_view keys.now) d.table d.lines.items) }
+    ensures shape { IfOk result
+        (λ d. HaveDocuments reading (paths_view keys.now) d.table d.lines.items) }
     ensures documents { MatchResult result
         (λ d. (text : List ℕ) → R.remaining reader ≡ Some text
         → AreDocumentsOf text reading (paths_view keys.now) d.table d.lines.items

@@ -1,4 +1,4 @@
--- Inputs of which every line is skipped.
+-- Inputs with every line skipped.
 --
 -- With the key id every line of the text {"day": 7}, [8] would be skipped.
 use Rattle.std.specs.Prelude.{◌≡◌, ◌==◌, ◌&&◌, ℕ, Bool, true, not, List, None, length}

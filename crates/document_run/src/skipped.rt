@@ -1,4 +1,4 @@
-//! Inputs of which every line is skipped.
+//! Inputs with every line skipped.
 
 ghost use Rattle.std.specs.Prelude.{◌≡◌, false, None, MatchResult};
 ghost use Rattle.document_run.specs.Skipped.{IsSkippedFault, none_kept};

@@ -90,7 +90,7 @@ equal_up negative c v up e =
 equal_down : (negative : Bool) (c v d down : ℕ) → c ≡ v → d ≡ down → AreEqual (made negative c 0 d) (made negative v 0 down)
 equal_down negative c v d down e f = record { size = (λ i. e i * 10 ^ (0 + sym f i)); sign = inr refl }
 
--- digits, and zeros behind them
+-- digits, and zeros after them
 whole_reads : (negative : Bool) (ds : List ℕ) (up : ℕ) → AllDigits 10 ds → 0 < length ds
     → AreEqual (decimal_of (sign_text negative ++ (ds ++ zeros up))) (made negative (digits_value 10 ds) up 0)
 whole_reads negative ds up d some =

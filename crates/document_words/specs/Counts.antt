@@ -2,7 +2,8 @@
 --
 -- 1 changed, 1 removed, 1 added, 5 the same.
 -- {"kind":"counts","changed":1,"removed":1,"added":1,"same":5,"not_shown":0}
--- {"kind":"counts","changed":1,"removed":1,"added":1,"same":5,"not_shown":0,"left_skipped":2,"right_skipped":0}
+-- {"kind":"counts","changed":1,"removed":1,"added":1,"same":5,"not_shown":0,
+--  "left_skipped":2,"right_skipped":0}
 use Rattle.std.specs.Fmt.{decimal}
 use Rattle.std.specs.Prelude.{ℕ, ◌-◌, List, ◌++◌, length, codes}
 use Rattle.diff_json.specs.Counts.{totals_members}

@@ -9,13 +9,13 @@ use Rattle.fast_float.specs.Text.{Parts, tens_up, tens_down}
 use Rattle.json_decimals.specs.Decimals.{is_negative, parts_of}
 use Rattle.json_plain.specs.Plain.{plain_json}
 
--- a numeral is printed without an exponent: it has digits, none behind a point, and at most 20 tens
+-- a numeral is printed without an exponent: it has digits, none after a point, and at most 20 tens
 -- beside them
 unfoldable pub is_short : Parts → Bool
 is_short p = nat_lt 0 (length p.whole) && (length p.fraction == 0)
     && nat_lt (tens_up p + tens_down p) 21
 
--- digits with a point, behind which this number of them stands; zeros stand before them if there
+-- digits with a point, after which this number of them stands; zeros stand before them if there
 -- are no more than that
 unfoldable pub with_point : List ℕ → ℕ → List ℕ
 with_point ds down = if nat_lt down (length ds)

@@ -9,7 +9,7 @@ use Rattle.std.specs.Prelude.{codes}
 use Rattle.diff_words.specs.Words.{word_text}
 use Rattle.document_words.specs.declared.sides.DocumentSides.{DocumentSides}
 
--- the words behind the number of lines
+-- the words after the number of lines
 abbrev pub lines_word : ℕ → List ℕ
 lines_word count = if count == 1 then codes " line of " else codes " lines of "
 

@@ -11,7 +11,7 @@ use json_decimals::tens::tens_of;
 use json_plain::plain::push_plain_json;
 use std::alloc::AllocError;
 
-/// The most tens that are printed as zeros or as places behind a point.
+/// The most tens that are printed as zeros or as places after a point.
 const MOST_TENS: u128 = 20;
 
 /// The tens of a number that is printed without an exponent: those that its digits are multiplied
@@ -66,7 +66,7 @@ fn push_zeros(out: &mut Vec<u8>, n: usize) -> Result<(), AllocError>
     Ok(())
 }
 
-/// Appends digits with a point, behind which `down` of them stand.
+/// Appends digits with a point, after which `down` of them stand.
 #[tactic(auto, unfolding(crate::specs::Numbers::with_point))]
 fn push_with_point(out: &mut Vec<u8>, digits: &[u8], down: usize) -> Result<(), AllocError>
     ensures { OnOk result (out.new.items ≡ out.old.items ++ with_point digits.now down) }

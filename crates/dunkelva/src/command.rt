@@ -8,7 +8,7 @@ use std::alloc::{AllocError, Global};
 /// The version of the program. `CHANGELOG.md` says what each version brought.
 const VERSION: &str = "0.1.0";
 
-/// The text behind the options in `dunkelva diff --help`.
+/// The text after the options in `dunkelva diff --help`.
 const NOTES: &str = "\
 Files whose names end in .ndjson or .jsonl have a JSON object in each line, and
 others are CSV; files named .json need --input. For JSON, --key takes paths such

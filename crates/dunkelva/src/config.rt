@@ -94,6 +94,16 @@ fn push_number(words: &mut Vec<String>, alloc: Global, name: &str, value: &Value
     Ok(())
 }
 
+/// Returns the quotes that keep a name of a list whole on the command line, where it is cut at
+/// commas.
+fn quotes_for(name: &str) -> &'static str {
+    if name.contains(',') && !name.contains('"') {
+        "\""
+    } else {
+        ""
+    }
+}
+
 /// Appends a word for each text of a list. A text alone is a list of one.
 fn push_texts(words: &mut Vec<String>, alloc: Global, name: &str, value: &Value) -> Result<()> {
     let Some(items) = value.as_array() else {
@@ -101,6 +111,19 @@ fn push_texts(words: &mut Vec<String>, alloc: Global, name: &str, value: &Value)
     };
     for item in items {
         push_text(words, alloc, name, item)?;
+    }
+    Ok(())
+}
+
+/// Appends a word for each name of a list. A text alone is a list as on the command line.
+fn push_names(words: &mut Vec<String>, alloc: Global, name: &str, value: &Value) -> Result<()> {
+    let Some(items) = value.as_array() else {
+        return push_text(words, alloc, name, value);
+    };
+    for item in items {
+        let text = text_of(name, item)?;
+        let quotes = quotes_for(text);
+        words.push(format!(in alloc; "--{name}={quotes}{text}{quotes}")?)?;
     }
     Ok(())
 }
@@ -113,9 +136,10 @@ fn push_bound(
     path: &str,
     bound: &Value,
 ) -> Result<()> {
+    let quotes = quotes_for(path);
     let word = match bound {
-        Value::String(text) => format!(in alloc; "--{name}={path}={text}")?,
-        Value::Integer(number) => format!(in alloc; "--{name}={path}={number}")?,
+        Value::String(text) => format!(in alloc; "--{name}={quotes}{path}{quotes}={text}")?,
+        Value::Integer(number) => format!(in alloc; "--{name}={quotes}{path}{quotes}={number}")?,
         other => return Err(misfit(name, "bounds in quotes such as \"0.01\"", other)),
     };
     words.push(word)?;
@@ -146,7 +170,7 @@ fn push_option(
         Takes::Text => push_text(words, alloc, option.id, value),
         Takes::Word(choices) => push_choice(words, alloc, option.id, choices, value),
         Takes::Number => push_number(words, alloc, option.id, value),
-        Takes::List => push_texts(words, alloc, option.id, value),
+        Takes::List => push_names(words, alloc, option.id, value),
         Takes::Texts => push_bounds(words, alloc, option.id, value),
     }
 }
@@ -194,7 +218,7 @@ fn refuse_unknown(table: &Table) -> Result<()> {
     Ok(())
 }
 
-/// Returns the name of the option in a word, without its hyphens, and the value behind an equals
+/// Returns the name of the option in a word, without its hyphens, and the value after an equals
 /// sign, if there is one.
 fn split_word(word: &str) -> Option<(&str, Option<&str>)> {
     let option = word.strip_prefix("--")?;
@@ -341,7 +365,7 @@ pub(crate) fn with_file(error: Error, config: &Config, words: &[String]) -> Erro
     }
 }
 
-/// Returns the words of a command line, with those that a file sets behind the command.
+/// Returns the words of a command line, with those that a file sets after the command.
 pub(crate) fn joined<'a>(
     alloc: Global,
     words: &'a [String],

@@ -16,6 +16,10 @@ const NAME_ROOM: usize = 4096;
 pub(crate) enum About {
     /// Its records, which are read as CSV.
     Records,
+    /// A record with another number of fields than the first one, which has the expected one.
+    Lengths { expected: u64 },
+    /// The members of the document in a line.
+    Members { line: u64 },
     /// A place in a line that is no document.
     Line { line: u64, column: u64 },
     /// Something else.
@@ -57,7 +61,7 @@ impl Error {
         Error { about, ..self }
     }
 
-    /// Adds a hint behind the message.
+    /// Adds a hint after the message.
     pub(crate) fn hint<M: Display + Drop>(self, hint: M) -> Error {
         Error {
             message: self.message.and_str(": ", ROOM).and(hint, ROOM),

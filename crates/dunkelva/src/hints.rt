@@ -2,12 +2,14 @@
 
 use crate::error::{About, Error, Result};
 use crate::files::open_again;
+use crate::names::{MOST_NAMES, push_name};
+use json::{Scratch, Value};
 use std::io::{BufRead, BufReader, Read};
 
 /// The characters of JSON that may stand between tokens in a line.
 const BLANKS: [char; 3] = [' ', '\t', '\r'];
 
-/// What JSON has no numbers for, each with its hint.
+/// Words of other formats for numbers that JSON lacks, each with its hint.
 const NO_NUMBERS: [(&str, &str); 3] = [
     ("NaN", "JSON has no NaN"),
     ("Infinity", "JSON has no Infinity"),
@@ -58,6 +60,51 @@ pub(crate) fn begins_object(rt: &HostRuntime, file: &str) -> bool {
 /// Returns a hint at what an ordinary file is that can't be read as CSV.
 fn records_hint(rt: &HostRuntime, file: &str) -> Option<&'static str> {
     begins_object(rt, file).then_some("it looks like JSON lines: give --input ndjson")
+}
+
+/// The bytes that may stand between fields, each with a question.
+const DELIMITERS: [(char, &str); 4] = [
+    (';', "is ';' the --delimiter?"),
+    ('\t', "is a tab the --delimiter? It is \\t"),
+    ('|', "is '|' the --delimiter?"),
+    (',', "is ',' the --delimiter?"),
+];
+
+/// Returns a hint at what an ordinary file is whose records differ in length. The first one has
+/// `expected` fields: if it is one, fields may end at another byte.
+fn lengths_hint(rt: &HostRuntime, file: &str, expected: u64) -> Option<&'static str> {
+    if expected != 1 || begins_object(rt, file) {
+        return records_hint(rt, file);
+    }
+    let first = line_of(rt, file, 1)?;
+    for (delimiter, question) in DELIMITERS {
+        if first.contains(delimiter) {
+            return Some(question);
+        }
+    }
+    None
+}
+
+/// Returns the names of the members of the document in a line of an ordinary file, as a hint.
+fn members_hint(rt: &HostRuntime, file: &str, line: u64) -> Option<String> {
+    let text = line_of(rt, file, line)?;
+    let mut scratch = Scratch::new(rt.alloc());
+    let Ok(Value::Object(members)) = Value::parse(rt.alloc(), &text, &mut scratch) else {
+        return None;
+    };
+    if members.is_empty() {
+        return None;
+    }
+    let mut hint = String::from_str(rt.alloc(), "the document has ").ok()?;
+    for (i, (name, _)) in members.iter().take(MOST_NAMES).enumerate() {
+        push_name(&mut hint, rt.alloc(), name.as_bytes(), i == 0).ok()?;
+    }
+    if members.len() > MOST_NAMES {
+        let more = members.len() - MOST_NAMES;
+        hint.push_str(&format!(in rt.alloc(); " and {more} more").ok()?)
+            .ok()?;
+    }
+    Some(hint)
 }
 
 /// Returns a line of an ordinary file, the first being 1.
@@ -121,8 +168,24 @@ fn hint_of(rt: &HostRuntime, error: &Error) -> Option<&'static str> {
     let file = error.file()?;
     match error.part() {
         About::Records => records_hint(rt, file),
+        About::Lengths { expected } => lengths_hint(rt, file, expected),
         About::Line { line, column } => line_hint(rt, file, line, column),
-        About::Other => None,
+        About::Members { .. } | About::Other => None,
+    }
+}
+
+/// Returns an error with a hint at what is wrong with its file, if one is known.
+fn with_hint(rt: &HostRuntime, error: Error) -> Error {
+    let members = match (error.part(), error.file()) {
+        (About::Members { line }, Some(file)) => members_hint(rt, file, line),
+        _ => None,
+    };
+    if let Some(hint) = members {
+        return error.hint(hint);
+    }
+    match hint_of(rt, &error) {
+        Some(hint) => error.hint(hint),
+        None => error,
     }
 }
 
@@ -137,8 +200,5 @@ pub(crate) fn explained(rt: &HostRuntime, error: Error, files: &[&str]) -> Error
             return trouble!("{what}").context(file);
         }
     }
-    match hint_of(rt, &error) {
-        Some(hint) => error.hint(hint),
-        None => error,
-    }
+    with_hint(rt, error)
 }

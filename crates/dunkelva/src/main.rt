@@ -17,6 +17,7 @@ mod files;
 mod hints;
 mod keys;
 mod kinds;
+mod lone_keys;
 mod names;
 mod near;
 mod only;
@@ -41,6 +42,7 @@ use crate::keys::keys_of;
 use crate::kinds::{
     hold_documents, refuse_document_options, refuse_table_options, refuse_two_formats,
 };
+use crate::lone_keys::warn_of_keys_alone;
 use crate::only::warn_of_unknown;
 use crate::outputs::refuse_own_target;
 use crate::parts::{part_of, part_of_rows, refuse_unsorted};
@@ -59,10 +61,10 @@ use document_run::options::DocumentOptions;
 use std::env;
 use std::process::ExitCode;
 
-/// The status where the files can't be compared.
+/// The exit status if the files can't be compared.
 const TROUBLE: u8 = 2;
 
-/// Compares two CSV files.
+/// Compares two CSV files, writes the report to the target, and returns the exit status.
 fn diff_tables(
     rt: &HostRuntime,
     matches: &ArgMatches<'_>,
@@ -93,14 +95,17 @@ fn diff_tables(
         format: format_of(matches),
         colored: is_colored(rt, matches),
     };
-    if matches.get_flag("sorted") {
+    let status = if matches.get_flag("sorted") {
         refuse_unsorted(matches)?;
-        return compare_named(rt, left, right, Task::Sorted(&options), target);
-    }
-    compare_named(rt, left, right, Task::Tables(&options), target)
+        compare_named(rt, left, right, Task::Sorted(&options), target)?
+    } else {
+        compare_named(rt, left, right, Task::Tables(&options), target)?
+    };
+    warn_of_keys_alone(rt, &options.choice, options.csv, left, right);
+    Ok(status)
 }
 
-/// Compares two files of documents.
+/// Compares two files of documents, writes the report to the target, and returns the exit status.
 fn diff_documents(
     rt: &HostRuntime,
     matches: &ArgMatches<'_>,

@@ -11,7 +11,7 @@ use std::fmt;
 use std::fmt::{Display, Formatter};
 
 /// The most names in a message.
-const MOST_NAMES: usize = 12;
+pub(crate) const MOST_NAMES: usize = 12;
 
 /// The most bytes of a name in a list. A longer one is cut.
 const MOST_BYTES: usize = 60;
@@ -30,7 +30,7 @@ pub(crate) struct QuotedName<'a> {
 }
 
 impl<'a> QuotedName<'a> {
-    /// Cuts a name behind this number of bytes. No character is split.
+    /// Cuts a name after this number of bytes. No character is split.
     fn cut(name: &'a str, most: usize) -> QuotedName<'a> {
         let start = name.get(..name.floor_char_boundary(most)).unwrap_or("");
         QuotedName {
@@ -53,7 +53,12 @@ pub(crate) fn quoted(name: &str) -> QuotedName<'_> {
 }
 
 /// Appends a name, cut if it is long, with a comma before it unless it is the first one.
-fn push_name(text: &mut String, alloc: Global, name: &[u8], is_first: bool) -> Result<()> {
+pub(crate) fn push_name(
+    text: &mut String,
+    alloc: Global,
+    name: &[u8],
+    is_first: bool,
+) -> Result<()> {
     let comma = if is_first { "" } else { ", " };
     text.push_str(comma)?;
     let Ok(name) = str::from_utf8(name) else {

@@ -1,6 +1,6 @@
 //! The options of `dunkelva diff`, in the order of the help text.
 
-/// The kind of value that stands behind an option.
+/// The kind of value that stands after an option.
 #[derive(Clone, Copy)]
 pub(crate) enum Takes {
     /// Nothing.
@@ -28,7 +28,7 @@ pub(crate) enum GoesWith {
 /// An option of the command line.
 #[derive(Clone, Copy)]
 pub(crate) struct CliOption {
-    /// Its name, which stands behind two hyphens.
+    /// Its name, which stands after two hyphens.
     pub(crate) id: &'static str,
     pub(crate) takes: Takes,
     /// The name of its value in the help text.

@@ -11,6 +11,7 @@ use json_paths::pattern::Pattern;
 use json_tolerances::bounds::Bound;
 use json_tolerances::closeness::Margin;
 use json_tolerances::error::BoundError;
+use json_tolerances::order::is_less;
 use std::alloc::Global;
 
 /// The option whose bounds are numbers.
@@ -96,16 +97,38 @@ pub(crate) fn without_bound(option: &str, takes: &str, word: &str) -> Error {
     error
 }
 
+/// The relative bound that any two numbers keep: they lie at most twice the larger one apart.
+const ANY_TWO: &str = "2";
+
+/// Refuses a relative bound above the one that any two numbers keep. It may be meant as a
+/// percentage.
+fn refuse_any_two(word: &str) -> Result<()> {
+    if !matches!(is_less(ANY_TWO, word), Ok(true)) {
+        return Ok(());
+    }
+    let error = trouble!(
+        "--{RELATIVE}: the bound {} allows any two numbers",
+        quoted(word)
+    );
+    if is_digits(word) {
+        return Err(error.hint(format_args!("for a percentage write {word}e-2")));
+    }
+    Err(error)
+}
+
 /// Returns the margin that a word of an option writes.
 pub(crate) fn margin_of(option: &str, word: &str) -> Result<Margin> {
     match Bound::read(word) {
-        Ok(bound) if option == RELATIVE => Ok(Margin::Relative(bound)),
+        Ok(bound) if option == RELATIVE => {
+            refuse_any_two(word)?;
+            Ok(Margin::Relative(bound))
+        }
         Ok(bound) => Ok(Margin::Absolute(bound)),
         Err(error) => Err(no_bound(option, word, error)),
     }
 }
 
-/// Returns the tolerance that a word of an option writes: a path, and behind the last equals sign a
+/// Returns the tolerance that a word of an option writes: a path, and after the last equals sign a
 /// bound.
 fn tolerance_of(alloc: Global, option: &str, word: &str) -> Result<Tolerance> {
     let Some((path, number)) = word.rsplit_once('=') else {

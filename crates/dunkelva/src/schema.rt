@@ -16,7 +16,7 @@ use std::alloc::{AllocError, Global};
 use std::io;
 use std::io::{ErrorKind, Write};
 
-/// The text behind the options in `dunkelva schema --help`.
+/// The text after the options in `dunkelva schema --help`.
 const NOTES: &str = "\
 Each column of a CSV file has the narrowest of the types empty, truth value,
 whole number, number and text that all its values are of. A field that is empty

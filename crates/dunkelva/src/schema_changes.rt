@@ -9,6 +9,7 @@ use crate::schema::{form_in, null_in, print_text, refuse_of_documents, refuse_of
 use crate::trouble::{csv_trouble, schema_trouble};
 use crate::words::csv_options;
 use clap::ArgMatches;
+use clap::parser::ValueSource;
 use diff_csv::options::CsvOptions;
 use schema_documents::changes_json::push_document_objects;
 use schema_documents::changes_text::push_document_lines;
@@ -21,12 +22,15 @@ use schema_run::read::{TableSchema, read_schema};
 use schema_run::said::Form;
 
 /// The options of `dunkelva diff` with a value that can't be given with `--schema-only`.
-const OTHERS: [&str; 7] = [
+const OTHERS: [&str; 10] = [
     "key",
     "only",
     "ignore",
     "text",
     "html",
+    "width",
+    "limit",
+    "color",
     "tolerance",
     "relative-tolerance",
 ];
@@ -72,12 +76,17 @@ fn paths_in(
     }
 }
 
+/// Returns whether an option that takes a value is given, and does not have its default alone.
+fn has_value(matches: &ArgMatches<'_>, option: &str) -> bool {
+    matches.value_source(option) == Some(ValueSource::CommandLine)
+}
+
 /// Refuses options that can't be given with `--schema-only`.
 fn refuse_others(matches: &ArgMatches<'_>) -> Result<()> {
     for option in options() {
         let is_given = match option.takes {
             Takes::Nothing => OTHER_FLAGS.contains(&option.id) && matches.get_flag(option.id),
-            _ => OTHERS.contains(&option.id) && matches.contains_id(option.id),
+            _ => OTHERS.contains(&option.id) && has_value(matches, option.id),
         };
         if is_given {
             return Err(trouble!("--{} can't be used with --schema-only", option.id));

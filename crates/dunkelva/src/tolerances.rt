@@ -20,7 +20,7 @@ fn refuse_key(option: &str, column: &str, keys: &[&[u8]]) -> Result<()> {
     Ok(())
 }
 
-/// Returns the tolerance that a word of an option writes: a column, and behind the last equals sign
+/// Returns the tolerance that a word of an option writes: a column, and after the last equals sign
 /// a bound.
 fn tolerance_of<'a>(option: &str, word: &'a str, keys: &[&[u8]]) -> Result<Tolerance<'a>> {
     let Some((column, number)) = word.rsplit_once('=') else {

@@ -45,7 +45,7 @@ pub(crate) fn csv_trouble(cause: CsvError, csv: CsvOptions) -> Error {
             line,
             expected,
             found,
-        } => other_length(line, found, expected, csv).about(About::Records),
+        } => other_length(line, found, expected, csv).about(About::Lengths { expected }),
         CsvError::OpenQuote { .. } => trouble!("{cause}").about(About::Records),
         other => trouble!("{other}"),
     }
@@ -225,8 +225,8 @@ pub(crate) fn sorted_trouble(error: SortedError, files: (&[u8], &[u8])) -> Error
     match error {
         SortedError::Falls { side, line } => {
             trouble!(
-                "the row at line {line} has a lesser key than the row before it: sort by bytes, as \
-                 LC_ALL=C sort does"
+                "the row at line {line} has a lesser key than the row before it: sort by the bytes \
+                 of the key, as LC_ALL=C sort -t, -k1,1 does"
             )
             .context(file_of(files, side))
         }
@@ -253,6 +253,9 @@ fn fault_text(fault: LineFault, keys: &[&[u8]]) -> Error {
 /// Returns the error for a line that is not a document.
 fn line_trouble(line: u64, column: Option<u64>, fault: LineFault, keys: &[&[u8]]) -> Error {
     let text = fault_text(fault, keys);
+    if let LineFault::NoPart { .. } = fault {
+        return trouble!("line {line}: {text}").about(About::Members { line });
+    }
     let Some(column) = column else {
         return trouble!("line {line}: {text}");
     };

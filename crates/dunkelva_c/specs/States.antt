@@ -140,7 +140,7 @@ pub record AreCounts (least greatest : Number) (words : List ℕ) (flag values r
   pub present : values ≡ length (set_of (state_at least greatest words flag))
   pub all : rows ≡ length (finalised Int (state_at least greatest words flag))
 
--- memory holds the values that a state has seen, ascending, and its old contents behind them.
+-- memory holds the values that a state has seen, ascending, and its old contents after them.
 -- `told` is 1 if a null was seen, and otherwise 0
 pub record IsListed (least greatest : Number) (words : List ℕ) (flag : ℕ) (old new : List ℕ)
     (told : ℕ) : Type 0 where

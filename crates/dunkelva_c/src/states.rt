@@ -105,7 +105,8 @@ fn append_numbers<T: UniqueNumber>(
     ensures appended { IfOk result (IsAppended range.now.least range.now.count
         (rows_lent T.value part.now values.now) words.old words.new flag.old flag.new) }
     ensures kept { OnErr result ((words.new ≡ words.old) × (flag.new ≡ flag.old)) }
-    ensures refused { IfErr result (IsTrueNumbersFault T.low T.high range.now.least range.now.greatest
+    ensures refused { IfErr result
+        (IsTrueNumbersFault T.low T.high range.now.least range.now.greatest
         (length values.now) part.now) }
 {
     let Some(least) = least_in::<T>(range) else {
@@ -295,7 +296,7 @@ fn list_state(
 }
 
 /// Writes the distinct values that a state has seen, ascending, and whether a null was: 1 or 0. A
-/// value is written as the lower 64 bits of its two's complement. What lies behind the last value
+/// value is written as the lower 64 bits of its two's complement. What lies past the last value
 /// stays as it is.
 #[unsafe(no_mangle)]
 pub extern "C" fn dunkelva_state_list(

@@ -1,6 +1,7 @@
 //! Arrays of any type: equality and null rows.
 
 ghost use Rattle.std.specs.Prelude.{◌≡◌, ◌≢◌, length, pos};
+ghost use Rattle.arrow_arrays.specs.Good.{AreGoodParts};
 ghost use Rattle.arrow_calls.specs.Statuses.{IsTrueStatus};
 ghost use Rattle.arrow_equality.specs.Equal.{AreEqualIn, IsCountIn};
 ghost use Rattle.arrow_equality.specs.Nulls.{AreNullIn};
@@ -22,9 +23,9 @@ use std::alloc::Global;
 /// or `comparisons` is empty, and 4 if an allocation fails. The width of offsets is no part of a
 /// type.
 ///
-/// The clauses say this of the parts alone: what 0 means for the bits (`same`) and for the number
-/// (`count`), that nothing is written otherwise (`kept`, `count_kept`), and that each status but 0
-/// is true (`refused`), except that nothing is said of 4.
+/// The clauses say this of the parts alone: what 0 means for the bits (`same`), for the number
+/// (`count`) and for the parts (`good`), that nothing is written otherwise (`kept`, `count_kept`),
+/// and that each status but 0 is true (`refused`), except that nothing is said of 4.
 #[tactic(auto, using(crate::proofs::TreeFaults::trees))]
 #[unsafe(no_mangle)]
 pub extern "C" fn dunkelva_parts_equal(
@@ -36,6 +37,7 @@ pub extern "C" fn dunkelva_parts_equal(
 ) -> i32
     ensures same { result ≡ pos 0 → AreEqualIn left.now right.now out.new }
     ensures count { result ≡ pos 0 → IsCountIn left.now right.now comparisons.new }
+    ensures good { result ≡ pos 0 → AreGoodParts left.now × AreGoodParts right.now }
     ensures kept { result ≢ pos 0 → out.new ≡ out.old }
     ensures count_kept { result ≢ pos 0 → comparisons.new ≡ comparisons.old }
     ensures refused { IsTrueStatus
@@ -62,6 +64,7 @@ pub extern "C" fn dunkelva_parts_are_null(
     count: &mut u64,
 ) -> i32
     ensures written { result ≡ pos 0 → AreNullIn parts.now out.new count.new }
+    ensures good { result ≡ pos 0 → AreGoodParts parts.now }
     ensures kept { result ≢ pos 0 → out.new ≡ out.old }
     ensures count_kept { result ≢ pos 0 → count.new ≡ count.old }
     ensures refused { IsTrueStatus (IsTrueNullRowsFault (length out.old) parts.now) result }

@@ -4,7 +4,7 @@ use Rattle.std.specs.List.{flat_map}
 use Rattle.dunkelva_options.specs.declared.lists.Quoting.{Quoting}
 use Rattle.dunkelva_options.specs.declared.lists.Quoting.TheVariants.{Outside, Inside, Escaped}
 
--- the place of the byte behind x, which is at the given place
+-- the place of the byte after x, which is at the given place
 abbrev pub after : Quoting → ℕ → Quoting
 after Outside x = cond (x == 34) Inside Outside
 after Inside x = cond (x == 34) Outside (cond (x == 92) Escaped Inside)
@@ -16,7 +16,7 @@ is_end Outside x = x == 44
 is_end Inside x = false
 is_end Escaped x = false
 
--- the texts in what is left of a list, behind the part of a text that was read
+-- the texts in what is left of a list, after the part of a text that was read
 abbrev pub parts_from : Quoting → List ℕ → List ℕ → List (List ℕ)
 parts_from q part [] = part ∷ []
 parts_from q part (x ∷ xs) =

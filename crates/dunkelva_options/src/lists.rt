@@ -12,12 +12,12 @@ use std::alloc::{AllocError, Global};
 enum Quoting {
     Outside,
     Inside,
-    /// Within quotes, behind a backslash.
+    /// Within quotes, after a backslash.
     Escaped,
 }
 
 impl Quoting {
-    /// Returns the place of the byte behind `byte`, which is at this place.
+    /// Returns the place of the byte after `byte`, which is at this place.
     fn after(self, byte: u8) -> Quoting
         ensures { result ≡ after self byte }
     {

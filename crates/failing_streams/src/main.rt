@@ -7,12 +7,11 @@
 //! `BYTES`. `demo WRITES` is the demo over such a writer. These words may come before a line, in
 //! this order:
 //!
-//! | Word | What the streams do |
-//! |---|---|
-//! | `interrupted` | each read and each write is interrupted once before it succeeds |
-//! | `boasting` | a read that gives bytes reports one more, if the buffer has room for it; that byte counts as given |
-//! | `stopping` | the writer does not fail after `WRITES` writes: it accepts nothing from then on |
-//! | `pieces N` | a call gives or accepts up to `N` bytes, limited by what is left and asked for |
+//! - `interrupted`: each read and each write is interrupted once before it succeeds
+//! - `boasting`: a read that gives bytes reports one more, if the buffer has room for it; that byte
+//!   counts as given
+//! - `stopping`: the writer does not fail after `WRITES` writes; it accepts nothing from then on
+//! - `pieces N`: a call gives or accepts up to `N` bytes, limited by what is left and asked for
 //!
 //! The output for a line is the line, ` -> `, the outcome of the run, and the bytes that the writer
 //! accepted. A line that begins with `#` is printed unchanged.

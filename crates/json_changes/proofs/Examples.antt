@@ -52,7 +52,7 @@ quoted-empty : path_text (name (codes "items") ∷ place 2 ∷ name [] ∷ []) �
 unfolding digits escape_byte
 quoted-empty = refl
 
--- null is no missing member, and an item that one side alone has stands behind the others
+-- null is no missing member, and an item that one side alone has stands after the others
 null-missing : differences (object (member (codes "a") null no_members)) (object no_members) ≡ record { path = name (codes "a") ∷ []; left = Some null; right = None } ∷ []
 null-missing = refl
 

@@ -20,7 +20,7 @@ pub printed_string : (s : List ℕ) → print (json_tokens (string s)) ≡ quote
 unfolding print_from
 printed_string s = append-nil (quoted s)
 
--- steps that are cut off behind those that stood before
+-- steps that are cut off after those that stood before
 pub cut : (old now longer deep back : List declared.Step) (n : ℕ) → now ≡ old → n ≡ length now → take (length now) longer ≡ now → deep ≡ longer → back ≡ take n deep → back ≡ old
 cut old now longer deep back n a b f d e = e ∙ ap (take n) d ∙ ap (λ m. take m longer) b ∙ f ∙ a
 
@@ -59,7 +59,7 @@ told_one rules trail left right e = told_test rules trail left right ∙ ap (λ 
 pub hidden_one : (rules : Rules) (trail : Path) (left right : Option Json) → is_told rules (here trail left right) ≡ false → told_at rules trail (apart left right ∷ []) ≡ []
 hidden_one rules trail left right e = told_test rules trail left right ∙ ap (λ b. map told (if b then here trail left right ∷ [] else [])) e
 
--- differences that are told behind others, those before them told first
+-- differences that are told after others, those before them told first
 pub joined : (rules : Rules) (trail : Path) (before after : List Told) (ds rest all : List Difference)
     → after ≡ before ++ told_at rules trail ds → all ≡ ds ++ rest → after ++ told_at rules trail rest ≡ before ++ told_at rules trail all
 joined rules trail before after ds rest all a e =

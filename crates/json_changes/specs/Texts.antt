@@ -31,7 +31,7 @@ is_plain_byte b = is_ascii_alphanumeric b || b == 95 || b == 45
 abbrev pub is_plain : List ℕ → Bool
 is_plain k = not (length k == 0) && list_all is_plain_byte k
 
--- a name, behind the text of a path
+-- a name, after the text of a path
 abbrev pub name_text : List ℕ → List ℕ → List ℕ
 name_text text k = if is_plain k then (if length text == 0 then k else 46 ∷ k) else 46 ∷ quoted k
 

@@ -37,12 +37,12 @@ zero : normal_number (codes "-0.00e7") ≡ codes "0"
 unfolding normal_number number_text digits_text tens_text normal_of decimal_of scan
 zero = refl
 
--- zeros behind the digits are tens
+-- zeros after the digits are tens
 hundreds : normal_number (codes "1200") ≡ codes "12e2"
 unfolding normal_number number_text digits_text tens_text normal_of decimal_of scan
 hundreds = refl
 
--- and so are those behind the point
+-- and so are those after the point
 hundredths : normal_number (codes "-0.05") ≡ codes "-5e-2"
 unfolding normal_number number_text digits_text tens_text normal_of decimal_of scan
 hundredths = refl

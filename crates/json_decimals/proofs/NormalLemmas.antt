@@ -8,7 +8,7 @@ use Rattle.json_decimals.proofs.EqualLemmas.{no_tens, one_form, passes, turned, 
 
 -- ---- a number without its tens
 
--- c is b with t zeros behind it, and b does not end in 0
+-- c is b with t zeros after it, and b does not end in 0
 pub record IsStripped (c b t : ℕ) : Type 0 where
   pub is : c ≡ b * 10 ^ t
   pub last : b % 10 ≢ 0

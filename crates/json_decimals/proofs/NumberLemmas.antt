@@ -42,6 +42,6 @@ text_of_kept s from to p q h =
     let t : ℕ = length (digits s) - to in
     ap number_text (is_form a b t kept.stripped) ∙ shifted_text a b t ∙ ap (λ x. (sign_text a.negative ++ x) ++ tens_text (a.up + t - a.down) (a.down - (a.up + t))) kept.text
 
--- the pieces behind what stood there before
+-- the pieces after what stood there before
 pub pieces : (old a b c : List ℕ) → ((old ++ a) ++ b) ++ c ≡ old ++ ((a ++ b) ++ c)
 pieces old a b c = simp append_assoc

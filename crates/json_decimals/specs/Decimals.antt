@@ -41,7 +41,7 @@ abbrev pub without_tens : ℕ → ℕ → ℕ
 without_tens zero c = c
 without_tens (suc most) c = if c % 10 == 0 then without_tens most (c / 10) else c
 
--- a decimal with this coefficient and this number of zeros behind it, with tens on one side only
+-- a decimal with this coefficient and this number of zeros after it, with tens on one side only
 abbrev pub shifted : Decimal → ℕ → ℕ → Decimal
 shifted a coefficient zeros = record {
   negative = a.negative;
@@ -69,7 +69,7 @@ is_negative s = slice_index s 0 == minus
 abbrev pub unsigned : List ℕ → List ℕ
 unsigned s = if is_negative s then drop 1 s else s
 
--- the parts of the numeral behind the sign
+-- the parts of the numeral after the sign
 abbrev pub parts_of : List ℕ → Parts
 parts_of s = scan (unsigned s)
 

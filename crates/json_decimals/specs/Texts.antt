@@ -27,6 +27,6 @@ number_text n = sign_text n.negative ++ digits_text n.coefficient ++ tens_text n
 unfoldable pub normal_number : List ℕ → List ℕ
 normal_number s = number_text (normal_of (decimal_of s))
 
--- an exponent with more than 30 digits behind its zeros
+-- an exponent with more than 30 digits after its zeros
 abbrev pub HasWideExponent : List ℕ → Type 0
 HasWideExponent s = 10 ^ 30 ≤ digits_value 10 (parts_of s).exponent

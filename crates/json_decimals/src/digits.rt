@@ -7,7 +7,7 @@ use fast_float::Numeral;
 use std::alloc::AllocError;
 use std::marker::Model;
 
-/// The digits of a numeral: those before its point, and those behind it.
+/// The digits of a numeral: those before its point, and those after it.
 #[derive(Drop)]
 pub(crate) struct Digits<'a> {
     whole: &'a [u8],
@@ -63,7 +63,7 @@ impl<'a> Digits<'a> {
         n
     }
 
-    /// Returns the place behind the last digit that is not 0, or 0.
+    /// Returns the place after the last digit that is not 0, or 0.
     pub(crate) fn end(&self) -> usize
         ensures { IsEnd self.now result }
     {

@@ -21,7 +21,7 @@ pub fn is_negative(text: &[u8]) -> bool
     }
 }
 
-/// Returns the numeral of a number's text, which stands behind its sign.
+/// Returns the numeral of a number's text, which stands after its sign.
 pub fn numeral_of(text: &[u8]) -> Numeral<'_>
     ensures { result ≡ parts_of text.now }
 {

@@ -20,7 +20,7 @@ pub struct Tens {
 }
 
 impl Tens {
-    /// Returns the tens of a coefficient with `zeros` more zeros behind it. At most one side has
+    /// Returns the tens of a coefficient with `zeros` more zeros after it. At most one side has
     /// tens.
     pub(crate) fn with_zeros(self, zeros: usize) -> Tens
         requires { self.up + self.down < 10 ^ 31 }
@@ -35,7 +35,7 @@ impl Tens {
     }
 }
 
-/// Returns the number that digits write, if it has at most 30 digits behind its leading zeros.
+/// Returns the number that digits write, if it has at most 30 digits after its leading zeros.
 fn value_of(digits: &[u8]) -> Option<u128>
     requires { AllDigits 10 digits.now }
     ensures { SomeIff result (digits_value 10 digits.now < 10 ^ 30) (digits_value 10 digits.now) }
@@ -50,7 +50,7 @@ fn value_of(digits: &[u8]) -> Option<u128>
     Some(value)
 }
 
-/// Returns the tens of a numeral, if its exponent has at most 30 digits behind its leading zeros.
+/// Returns the tens of a numeral, if its exponent has at most 30 digits after its leading zeros.
 pub fn tens_of(numeral: &Numeral<'_>) -> Option<Tens>
     ensures tens { MatchOption result (10 ^ 30 ≤ digits_value 10 numeral.now.exponent)
         (λ t. (t.up ≡ tens_up numeral.now) × (t.down ≡ tens_down numeral.now)) }

@@ -28,6 +28,6 @@ NormalTextsTell = (j k : Json) → HasUniqueKeys j → HasUniqueKeys k → AreSa
 abbrev pub TextReadsBack : Type 0
 TextReadsBack = (j : Json) → depth j ≤ max_depth → document (normal_text j) ≡ Some (normal j)
 
--- the value of a number is read from the whole of its text: its sign and the numeral behind it
+-- the value of a number is read from the whole of its text: its sign and the numeral after it
 abbrev pub NumbersAreReadWhole : Type 0
 NumbersAreReadWhole = (s : List ℕ) → IsNumber s → (parts_of s).len ≡ length (unsigned s)

@@ -1,6 +1,6 @@
 -- Values whose numbers can be brought into their normal form.
 --
--- 1e99 is narrow. 1e with 31 ones behind it is not.
+-- 1e99 is narrow. 1e with 31 ones after it is not.
 use Rattle.std.specs.Prelude.{◌≡◌, Ok, Err, Result, ⊤}
 use Rattle.json.specs.Json.{Json, null, boolean, number, string, array, object, Items, no_items}
 use Rattle.json.specs.Json.{item, Members, no_members, member}

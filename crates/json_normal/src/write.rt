@@ -112,7 +112,8 @@ fn write_members<'a>(
     ensures ok { OnOk result (writer.new.tokens
         ≡ writer.old.tokens ++ members_tokens (members_from
         (in_order (normal_entries (members_view members.now.items))))) }
-    ensures narrow { TellsNarrow result (MembersHaveNarrowNumbers (members_view members.now.items)) }
+    ensures narrow { TellsNarrow result
+        (MembersHaveNarrowNumbers (members_view members.now.items)) }
     ensures before { writer.new.before ≡ writer.old.before }
 {
     let order = in_key_order(alloc, members)?;

@@ -36,12 +36,12 @@ abbrev mutual
   parts_below path (array js) = item_parts (item_path path) js
   parts_below path (object ms) = member_parts path ms
 
-  -- items at a path, each with its parts behind it
+  -- items at a path, each with its parts after it
   pub item_parts : List ℕ → Items → List Part
   item_parts path no_items = []
   item_parts path (item j js) = part path j ∷ (parts_below path j ++ item_parts path js)
 
-  -- the members of an object at a path, each with its parts behind it
+  -- the members of an object at a path, each with its parts after it
   pub member_parts : List ℕ → Members → List Part
   member_parts path no_members = []
   member_parts path (member k j ms) =

@@ -12,7 +12,7 @@ use Rattle.json_paths.specs.Texts.{is_plain, IsPlaceText, with_dot}
 use Rattle.json_paths.proofs.QuoteLemmas.{quote_at}
 use Rattle.json_paths.proofs.StepLemmas.{run, plain_begins, no_plain, quoted_begins, no_quoted, place_begins, any_begins, no_item, no_other}
 
--- ---- behind plain bytes
+-- ---- after plain bytes
 
 small_go : (x : ℕ) (a b c e : Bool) → (x == 46) ≡ a → (x == 91) ≡ b → (x == 93) ≡ c → (x == 34) ≡ e → not ((a || b || c) || e) ≡ false → x < 128
 small_go x true b c e p q r s h = let v = eqb-true x 46 p in omega arith
@@ -75,7 +75,7 @@ module _ (d : List ℕ) (start end : ℕ) (within : start ≤ length d) (is : en
   pub no_place : (end ≡ start → ⊥) → ((i : ℕ) → IsPlaceText (take (end - start) (drop start d)) i → ⊥) → NoSteps (91 ∷ drop start d)
   no_place some fails = no_item (drop start d) (λ inside closes. (omega (arith, some), λ i p. fails i (subst (λ n. IsPlaceText (take n (drop start d)) i) count p)))
 
--- ---- behind quotes
+-- ---- after quotes
 
 record EndsAt (o : Option ℕ) (start end : ℕ) : Type 0 where
   pub n : ℕ

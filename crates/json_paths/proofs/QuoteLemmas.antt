@@ -73,7 +73,7 @@ passed (x ∷ xs) false n h =
     passes (x == 34) (x == 92) (is_operator x) (is_space x) x xs (λ next. lex next xs)
     ∙ pass_step (x == 34) (x == 92) (up_to_quote (x == 92) xs) n x xs (λ m e. passed xs (x == 92) m e) (sym (next_plain x xs) ∙ h)
 
--- a quote behind a string begins another lexeme
+-- a quote after a string begins another lexeme
 begins : (c : Class) (x : ℕ) (xs : List ℕ) (k : Mode → List Lexeme) → (k between ≡ [] → ⊥) → lex_byte between c x xs k ≡ [] → ⊥
 begins quote x xs k f h = absurd (cc)
 begins backslash x xs k f h = absurd (cc)
@@ -86,7 +86,7 @@ unfolding lex
 quote_left [] h = absurd (cc)
 quote_left (z ∷ zs) h = begins (class z) z (zs ++ 34 ∷ []) (λ next. lex next (zs ++ 34 ∷ [])) (quote_left zs) h
 
--- ---- a document that is a string has nothing behind it
+-- ---- a document that is a string has nothing after it
 
 allowed : (b : Bool) (t : Token) (k : Place → List Token) (next : Place) → if_allowed b t k next ≡ [] → ⊥
 allowed true t k next h = absurd (cc)
@@ -169,7 +169,7 @@ over_four a b c d xs h k =
     let r = and_parts (is_digit a 16) (is_digit b 16) q.0 in
     over_hex a (b ∷ c ∷ d ∷ xs) r.0 (over_hex b (c ∷ d ∷ xs) r.1 (over_hex c (d ∷ xs) q.1 (over_hex d xs p.1 k)))
 
--- what was read behind bytes that were put in front
+-- what was read after bytes that were put in front
 behind_bytes : (bytes s : List ℕ) (o : Option (List ℕ)) → prepend bytes o ≡ Some s → (t : List ℕ) × (o ≡ Some t)
 behind_bytes bytes s None h = absurd (cc)
 behind_bytes bytes s (Some t) h = (t, refl)
@@ -249,7 +249,7 @@ closes (after_high u) (x ∷ y ∷ a ∷ b ∷ c ∷ d ∷ xs) s h = pair_go (x 
 
 -- ---- both together
 
--- what stands behind the quote does not matter
+-- what stands after the quote does not matter
 extend_go : (q : Bool) (o p : Option ℕ) (n : ℕ) → (o ≡ Some n → p ≡ Some n) → cond q (Some 0) (option_map suc o) ≡ Some (suc n) → cond q (Some 0) (option_map suc p) ≡ Some (suc n)
 extend_go true o p n f h = absurd (cc)
 extend_go false None p n f h = absurd (cc)

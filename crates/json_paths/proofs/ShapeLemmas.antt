@@ -7,7 +7,7 @@ use Rattle.json_paths.specs.Paths.{name, place}
 use Rattle.json_paths.specs.Patterns.{Pattern, exactly, any_item}
 use Rattle.json_paths.specs.Texts.{is_plain, IsPlaceText, IsQuotedName, IsPlainName, AreSteps}
 
--- the first byte, what stands behind it, and the steps of both: one constructor for each kind of the first step
+-- the first byte, what stands after it, and the steps of both: one constructor for each kind of the first step
 pub data Shape (x : ℕ) (t : List ℕ) (all : Pattern) : Type 0 where
   plain : (k rest : List ℕ) (more : Pattern) → x ≡ 46 → t ≡ k ++ rest → IsPlainName k → all ≡ exactly (name k) ∷ more → AreSteps rest more → Shape x t all
   quoted : (inner rest k : List ℕ) (more : Pattern) → x ≡ 46 → t ≡ 34 ∷ (inner ++ 34 ∷ rest) → document (34 ∷ (inner ++ 34 ∷ [])) ≡ Some (string k) → all ≡ exactly (name k) ∷ more → AreSteps rest more → Shape x t all

@@ -31,7 +31,7 @@ pub record Begins (text : List ℕ) (steps : Pattern) (rest : List ℕ) : Type 0
 abbrev pub NoSteps : List ℕ → Type 0
 NoSteps text = (all : Pattern) → AreSteps text all → ⊥
 
--- the step at the beginning of the text that is left, and the place behind it; an error if there is
+-- the step at the beginning of the text that is left, and the place after it; an error if there is
 -- no step
 abbrev pub Finds : List ℕ → ℕ → List ℕ → Result Found PathError → Type 0
 Finds text start left r = MatchResult r

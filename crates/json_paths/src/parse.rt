@@ -69,7 +69,7 @@ fn plain_name(alloc: Global, text: &str, start: usize) -> Result<Found, PathErro
     Ok(Found { step, end })
 }
 
-/// Returns the end of a name with quotes, behind the second one. The first one is byte `start`.
+/// Returns the end of a name with quotes, after the second one. The first one is byte `start`.
 fn quoted_end(bytes: &[u8], start: usize) -> Option<usize>
     requires { start < length bytes.now }
     ensures { result
@@ -88,7 +88,8 @@ fn quoted_end(bytes: &[u8], start: usize) -> Option<usize>
 /// Returns the text that a string of JSON writes.
 fn unquoted(alloc: Global, quoted: &str) -> Result<String, PathError>
     ensures read { IfOk result (λ name. document quoted.now ≡ Some (string (string_bytes name))) }
-    ensures invalid { IfErr result (λ e. IsInvalid e → (k : _) → document quoted.now ≢ Some (string k)) }
+    ensures invalid { IfErr result
+        (λ e. IsInvalid e → (k : _) → document quoted.now ≢ Some (string k)) }
 {
     let mut scratch = Scratch::new(alloc);
     match Value::parse(alloc, quoted, &mut scratch) {
@@ -136,7 +137,7 @@ fn place_of(digits: &str) -> Option<usize>
     digits.parse::<usize>().ok()
 }
 
-/// Reads the step within brackets. Behind the first bracket, at byte `start`, stand the digits of a
+/// Reads the step within brackets. After the first bracket, at byte `start`, stand the digits of a
 /// place, or nothing, which means any item.
 fn item_at(text: &str, start: usize) -> Result<Found, PathError>
     requires { IsCharBoundary text.now start }

@@ -2,7 +2,7 @@
 use Rattle.std.specs.Prelude.{◌≡◌, ◌++◌, [], ◌∷◌, codes, refl}
 use Rattle.json_plain.specs.Plain.{plain_byte, plain_json}
 
--- U+0085 behind an a
+-- U+0085 after an a
 next-line : plain_json (codes "\"a" ++ 194 ∷ 133 ∷ codes "\"") ≡ codes "\"a\\u0085\""
 unfolding plain_json plain_byte
 next-line = refl

@@ -28,7 +28,7 @@ escaped_low before b h = grind (arith, nat_tests)
 bare_other : (before b : ℕ) → is_escaped before b ≡ false → ¬ (b ≡ 127)
 bare_other before b h e = grind (arith, nat_tests)
 
--- behind the byte q no more is a control character than behind the byte p
+-- after the byte q no more is a control character than after the byte p
 abbrev IsNoWorse : ℕ → ℕ → Type 0
 IsNoWorse q p = (c : ℕ) → is_high_control p c ≡ false → is_high_control q c ≡ false
 

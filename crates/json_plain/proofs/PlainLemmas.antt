@@ -16,7 +16,7 @@ byte_written all now after before b next bytes i within rest a e n =
     let both : plain_behind before (drop i bytes) ≡ plain_byte before b next ++ plain_behind b (drop (i + 1) bytes) = rw (e, n, ← look) step in
     ap (λ l. l ++ plain_behind b (drop (i + 1) bytes)) a ∙ (append_assoc now (plain_byte before b next) (plain_behind b (drop (i + 1) bytes)) ∙ (ap (λ l. now ++ l) (sym both) ∙ rest))
 
--- behind the last byte nothing is still to be written
+-- after the last byte nothing is still to be written
 pub all_written : (all now : List ℕ) (before : ℕ) (bytes : List ℕ) (i : ℕ) → length bytes ≤ i → now ++ plain_behind before (drop i bytes) ≡ all → now ≡ all
 all_written all now before bytes i past rest =
     let none : drop i bytes ≡ [] = drop_of_length-le bytes past in

@@ -110,7 +110,7 @@ low_first p x r low =
     let bare : is_escaped p x ≡ false = grind (arith, nat_tests) in
     rw (kept, bare) refl
 
--- behind such a byte a text is printed as at the front
+-- after such a byte a text is printed as at the front
 pub calm : (p : ℕ) (r : List ℕ) → is_low p ≡ true → plain_behind p r ≡ plain_behind 0 r
 unfolding plain_byte
 calm p [] low = refl
@@ -147,7 +147,7 @@ all_low = refl
 
 -- ---- a string that is printed plainly
 
--- the content is s, and behind its quote stands the plain text of r
+-- the content is s, and after its quote stands the plain text of r
 pub record Spells (text s r : List ℕ) : Type 0 where
   pub read : content plain text ≡ Some s
   pub lexed : lex in_string text ≡ lex between (plain_behind 0 r)
@@ -161,7 +161,7 @@ low_second p x low = grind (arith, nat_tests)
 high_parts : (b c : ℕ) → is_high_control b c ≡ true → (b ≡ 194) × ((128 ≤ c) × (c < 160))
 high_parts b c h = (grind (arith, nat_tests), (grind (arith, nat_tests), grind (arith, nat_tests)))
 
--- a byte that begins no control character begins none before what is printed for the bytes behind it
+-- a byte that begins no control character begins none before what is printed for the bytes after it
 kept_before : (b : ℕ) (s r : List ℕ) → is_high_control b (get_or s 0 0) ≡ false → is_high_control b (get_or (escape s ++ 34 ∷ r) 0 0) ≡ false
 kept_before b [] r h = low_second b 34 (omega arith)
 kept_before b (x ∷ s) r h = elim (cases_lt x 127) [
@@ -173,7 +173,7 @@ kept_before b (x ∷ s) r h = elim (cases_lt x 127) [
     first [] low = absurd (cc)
     first (y ∷ ys) low = let small : is_low y ≡ true = (and_parts (is_low y) (list_all is_low ys) low).0 in grind (arith, nat_tests)
 
--- what follows a byte of a string, behind any byte that does not begin a control character with it
+-- what follows a byte of a string, after any byte that does not begin a control character with it
 abbrev pub Follows : List ℕ → List ℕ → Type 0
 Follows s r = (q : ℕ) → is_high_control q (get_or s 0 0) ≡ false → Spells (plain_behind q (escape s ++ 34 ∷ r)) s r
 

@@ -1,7 +1,7 @@
 -- JSON texts without the control characters from U+007F to U+009F, which JSON lets stand in a
 -- string as they are.
 --
--- The text "a", with U+0085 behind the a, is printed as "a\u0085".
+-- The text "a", with U+0085 after the a, is printed as "a\u0085".
 use Rattle.std.specs.Fmt.{digit_glyph}
 use Rattle.std.specs.Prelude.{ℕ, ◌/◌, ◌%◌, ◌==◌, Bool, false, ◌&&◌, ◌||◌, nat_lt, if◌then◌else◌}
 use Rattle.std.specs.Prelude.{List, [], ◌∷◌, ◌++◌, get_or, codes}
@@ -25,7 +25,7 @@ unfoldable pub plain_byte : ℕ → ℕ → ℕ → List ℕ
 plain_byte before b after =
     if is_high_control b after then [] else (if is_escaped before b then escape_text b else b ∷ [])
 
--- the output for the bytes of a text that stand behind another byte, which is 0 if there is none
+-- the output for the bytes of a text that stand after another byte, which is 0 if there is none
 abbrev pub plain_behind : ℕ → List ℕ → List ℕ
 plain_behind before [] = []
 plain_behind before (b ∷ bs) = plain_byte before b (get_or bs 0 0) ++ plain_behind b bs

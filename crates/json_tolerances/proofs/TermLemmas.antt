@@ -17,7 +17,7 @@ tens_positive n = omega (arith, one-le-pow n 10 (omega arith))
 pub tens_le : (i j : ℕ) → i ≤ j → 10 ^ i ≤ 10 ^ j
 tens_le i j h = pow-le-pow_right {n = 10} (omega arith) h
 
--- ---- a number with tens behind it, cut at a place
+-- ---- a number with tens after it, cut at a place
 
 regroup : (c x y : ℕ) → c * (x * y) ≡ c * x * y
 regroup c x y = omega arith

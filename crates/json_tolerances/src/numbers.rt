@@ -79,7 +79,7 @@ impl<'a> Number<'a> {
         self.tens
     }
 
-    /// Returns the number that the digits write, if it has at most 18 digits behind its leading
+    /// Returns the number that the digits write, if it has at most 18 digits after its leading
     /// zeros.
     pub(crate) fn coefficient(&self) -> Option<u64>
         ensures { SomeIff result (self.now.coefficient < 10 ^ 18) self.now.coefficient }

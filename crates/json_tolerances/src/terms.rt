@@ -28,7 +28,7 @@ impl<'a> Model for Term<'a> {
     ghost invariant = { λ t. AllDigits 10 (t.whole.now ++ t.fraction.now) × (t.tens < 10 ^ 33) };
 }
 
-/// Returns the byte at a place in two slices, one behind the other.
+/// Returns the byte at a place in two slices, one after the other.
 fn byte_at(front: &[u8], back: &[u8], i: usize) -> u8
     requires { i < length (front.now ++ back.now) }
     ensures { result ≡ slice_index (front.now ++ back.now) i }
@@ -40,8 +40,8 @@ fn byte_at(front: &[u8], back: &[u8], i: usize) -> u8
     }
 }
 
-/// Returns the number that digits in two slices write, one slice behind the other, if it has at
-/// most 18 digits behind its leading zeros.
+/// Returns the number that digits in two slices write, one slice after the other, if it has at
+/// most 18 digits after its leading zeros.
 pub(crate) fn value_of(front: &[u8], back: &[u8]) -> Option<u64>
     requires front { AllDigits 10 front.now }
     requires back { AllDigits 10 back.now }

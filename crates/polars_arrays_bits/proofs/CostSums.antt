@@ -6,7 +6,7 @@ use Rattle.polars_arrays_bits.specs.Costs.{cost_of}
 pub cost-next : (costs : ℕ → ℕ) (at n before between after : ℕ) → between ≡ before + cost_of costs at n → after ≡ between + costs (at + n) → after ≡ before + cost_of costs at (n + 1)
 cost-next costs at n before between after so_far step = rw add-one (omega (arith, so_far, step))
 
--- some places, and those behind them
+-- some places, and those after them
 pub cost-append : (costs : ℕ → ℕ) (at m n : ℕ) → cost_of costs at (m + n) ≡ cost_of costs at m + cost_of costs (at + m) n
 cost-append costs at m zero =
     let all : m + 0 ≡ m = omega arith in
@@ -33,7 +33,7 @@ cost-word costs k len before between after lt so_far step =
     let last = ap (cost_of costs 0) next in
     omega (arith, so_far, step, split, first, second, last)
 
--- places that cost nothing, and such ones behind them
+-- places that cost nothing, and such ones after them
 pub free-append : (costs : ℕ → ℕ) (at m n : ℕ) → cost_of costs at m ≡ 0 → cost_of costs (at + m) n ≡ 0 → cost_of costs at (m + n) ≡ 0
 free-append costs at m n first next = omega (arith, cost-append costs at m n, first, next)
 

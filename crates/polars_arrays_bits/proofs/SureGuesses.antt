@@ -8,7 +8,7 @@ use Rattle.polars_arrays_bits.specs.Guesses.{AreSure}
 pub sure-first : (sure : ℕ → Bool) (at m n : ℕ) → m ≤ n → AreSure sure at n → AreSure sure at m
 sure-first sure at m n le all = λ i lt. all i (omega arith)
 
--- those behind the first
+-- those after the first
 pub sure-next : (sure : ℕ → Bool) (at m n : ℕ) → AreSure sure at (m + n) → AreSure sure (at + m) n
 sure-next sure at m n all = λ i lt.
     let place : at + (m + i) ≡ at + m + i = omega arith in

@@ -33,7 +33,7 @@ are-words-more f k word words more made is e =
           record { bits = λ i below. ap (λ w. is_bit w i) same ∙ is.bits i below });
     }
 
--- the word of at most 64 values from the k-th 64 on, of which there are no more behind it
+-- the word of at most 64 values from the k-th 64 on, of which there are no more after it
 pub word-values : (values : List Bool) (k at count word : ℕ) → at ≡ min (64 * k) (length values) → count ≡ min (length values - at) 64 → IsPacked word values at count → IsWord (λ i. get_or values i false) k word
 word-values values k at count word a n packed = record {
   bits = λ i below.

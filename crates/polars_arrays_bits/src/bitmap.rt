@@ -188,7 +188,8 @@ impl Bitmap {
         Bitmap { words, at: 0, len }
     }
 
-    // Returns the words that hold the window, and the bit of the first word where it begins.
+    // Returns the words in which the bits are stored, packed already, and the bit of the first word
+    // where the bitmap begins.
     pub(crate) fn packed(&self) -> (&[u64], usize)
         ensures begin { result.1 < 64 }
         ensures within { result.1 + length self.now ≤ 64 * length result.0.now }

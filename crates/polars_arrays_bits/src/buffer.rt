@@ -117,7 +117,7 @@ impl<T: Copy> Buffer<T> {
         self.store.window_mut(self.start, self.len)
     }
 
-    // Returns what `is_owned` does, through a `&mut`.
+    // Returns the result of `is_owned`, through a `&mut`.
     fn owns(&mut self) -> bool
         ensures unchanged { self.new ≡ self.old }
         ensures owned { result ≡ self.old.owned }

@@ -35,7 +35,8 @@ impl Model for BitmapBuilder {
 
     ghost view = { λ b. record { bits = window 0 b.len b.words.items; room = b.room } };
 
-    ghost invariant = { λ b. (b.len + b.room ≤ 64 * length b.words.items) × (b.len + b.room < 2 ^ 64) };
+    ghost invariant = { λ b. (b.len + b.room ≤ 64 * length b.words.items)
+        × (b.len + b.room < 2 ^ 64) };
 }
 
 impl BitmapBuilder {
@@ -90,7 +91,7 @@ impl BitmapBuilder {
         self.room -= n;
     }
 
-    /// Pushes truth values that are read one by one, a word at a time.
+    /// Pushes truth values: reads them one by one, and writes 64 at a time.
     pub fn extend_values<V: TruthValues>(&mut self, values: &V)
         requires { length (V.values values.now) ≤ self.old.room }
         ensures { self.new

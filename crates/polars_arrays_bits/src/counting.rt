@@ -16,7 +16,9 @@ use polars_arrays_words::packing::put;
 use polars_arrays_words::words::WORD_BITS;
 use std::alloc::Global;
 
-/// A list of truth values that are read one by one, each at a cost that is added to a counter.
+/// A list of truth values that are read one by one, each at a cost that is added to a counter. It
+/// may offer a quick `guess` of a value; where its `is_sure` is true, the guess is the value, which
+/// then costs nothing.
 pub trait CountedValues {
     // The truth values, the first one first.
     ghost values: { Self → List Bool };
@@ -144,7 +146,8 @@ fn push_counted<V: CountedValues>(words: &mut Vec<u64>, values: &V, count: usize
     requires room { count ≤ vec_capacity words.old }
     requires none { words.old.items ≡ [] }
     ensures words { AreWords (λ i. get_or (V.values values.now) i false) count words.new.items }
-    ensures counted { steps.new ≡ steps.old + cost_of (V.costs values.now) 0 (length (V.values values.now)) }
+    ensures counted { steps.new
+        ≡ steps.old + cost_of (V.costs values.now) 0 (length (V.values values.now)) }
 {
     let len = values.len();
     for k in 0..count {
@@ -154,8 +157,9 @@ fn push_counted<V: CountedValues>(words: &mut Vec<u64>, values: &V, count: usize
 }
 
 impl Bitmap {
-    /// Packs truth values that are read one by one, and adds their costs to the counter. The error
-    /// is `Memory`; the counter may then have increased.
+    /// Packs truth values and adds the cost of each to the counter. They are read one by one,
+    /// except that 64 at a time may be guessed: where `is_sure` is true, the guess is the value and
+    /// costs nothing. The error is `Memory`; the counter may then have increased.
     pub fn from_counted<V: CountedValues>(
         alloc: Global,
         values: &V,

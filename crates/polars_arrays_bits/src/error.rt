@@ -47,7 +47,8 @@ pub enum ArrayError {
     /// A field's values do not have the struct's length or the field's type.
     #[error("field {at} does not fit")]
     Field { at: usize },
-    /// A view does not describe a row.
+    /// A view is bad: it points outside of its buffer, its prefix is not that of the bytes, or a
+    /// row of at most 12 bytes is not filled up with zeros.
     #[error("view {row} is not good")]
     View { row: usize },
     /// The bytes of a row are not UTF-8.

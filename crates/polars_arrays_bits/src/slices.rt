@@ -13,7 +13,8 @@ use polars_arrays_numbers::comparison::Comparison;
 use polars_arrays_words::packing::{TruthValues, pack_few};
 use std::alloc::Global;
 
-/// A comparison of the elements of two slices of equal length, as one truth value a place.
+/// A comparison of the elements of two slices of equal length, as one truth value a place. (Pairs
+/// of adjacent bits are `Pairs` of `folds.rt` in `polars_arrays_words`.)
 #[derive(Drop)]
 pub struct Pairs<'a, L, R, E> {
     pub comparison: &'a E,
@@ -43,7 +44,8 @@ impl<'a, L: Copy, R: Copy, E: Comparison<L, R>> TruthValues for Pairs<'a, L, R, 
     }
 }
 
-/// Compares the elements of two slices of equal length, place by place. The error is `Memory`.
+/// Returns a bit for each place of two slices of equal length, set where the comparison holds of
+/// the two elements. The error is `Memory`.
 pub fn compare_pairs<L: Copy, R: Copy, E: Comparison<L, R>>(
     alloc: Global,
     comparison: &E,

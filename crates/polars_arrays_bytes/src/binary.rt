@@ -142,7 +142,8 @@ impl<O: Offset> BinaryArray<O> {
                   self.old.values;
               validity = validity_window at n self.old.validity;
             } }
-        ensures strings { offset_strings O.value self.new ≡ window at n (offset_strings O.value self.old) }
+        ensures strings { offset_strings O.value self.new
+            ≡ window at n (offset_strings O.value self.old) }
         ensures rows { offset_rows O.value self.new ≡ window at n (offset_rows O.value self.old) }
     {
         keep_rows(&mut self.offsets, at, n);

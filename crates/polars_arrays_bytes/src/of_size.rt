@@ -33,7 +33,8 @@ impl<'a, const SIZE: usize> OfSize<'a, SIZE> {
 }
 
 impl<const SIZE: usize> Array for OfSize<'_, SIZE> {
-    ghost slots = { λ o. byte_slots (sized_strings o.array.now.size o.array.now.count o.array.now.values) };
+    ghost slots = { λ o. byte_slots
+        (sized_strings o.array.now.size o.array.now.count o.array.now.values) };
 
     ghost validity_bits = { λ o. o.array.now.validity };
 

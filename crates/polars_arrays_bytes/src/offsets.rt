@@ -81,7 +81,7 @@ fn is_within<O: Offset>(offset: O, n: usize) -> bool
     }
 }
 
-// Returns whether a row is good over `n` bytes.
+// Returns whether the two offsets of a row do not fall and lie within `n` bytes.
 fn is_good_row<O: Offset>(offsets: &[O], n: usize, row: usize) -> bool
     requires { row + 1 < length offsets.now }
     ensures { IsTrue result ↔ IsGoodRow n (places O.value offsets.now) row }
@@ -89,7 +89,7 @@ fn is_good_row<O: Offset>(offsets: &[O], n: usize, row: usize) -> bool
     bounds(offsets[row], offsets[row + 1], n)
 }
 
-// Returns whether two offsets bound a row of `n` bytes.
+// Returns whether `from` and `to` bound a row within `n` bytes: 0 <= from <= to <= n.
 fn bounds<O: Offset>(from: O, to: O, n: usize) -> bool
     ensures { IsTrue result ↔ Bounds n (natural_of (O.value from)) (natural_of (O.value to)) }
 {
@@ -120,7 +120,8 @@ pub(crate) fn string_on<'a, O: Offset>(
     requires row { i < row_count offsets.now }
     requires good { IsGoodRow (length values.now) (places O.value offsets.now) i }
     ensures within { result.1 ≤ length result.0.now }
-    ensures string { take result.1 result.0.now ≡ string_between (places O.value offsets.now) values.now i }
+    ensures string { take result.1 result.0.now
+        ≡ string_between (places O.value offsets.now) values.now i }
 {
     let (from, to) = (offsets[i].place(), offsets[i + 1].place());
     (&values[from..], to - from)

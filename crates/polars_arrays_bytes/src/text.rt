@@ -122,7 +122,8 @@ impl<O: Offset> Utf8Array<O> {
                   self.old.values;
               validity = validity_window at n self.old.validity;
             } }
-        ensures strings { offset_strings O.value self.new ≡ window at n (offset_strings O.value self.old) }
+        ensures strings { offset_strings O.value self.new
+            ≡ window at n (offset_strings O.value self.old) }
         ensures rows { offset_rows O.value self.new ≡ window at n (offset_rows O.value self.old) }
     {
         self.binary.slice(at, n);
@@ -199,8 +200,8 @@ impl<O: Offset> ByteRows for Utf8Array<O> {
     ghost slots_law = { λ a. refl };
 }
 
-// Returns the first byte string that is not UTF-8. All bytes are read at once, and row by row only
-// where they do not show by themselves that each row is a text.
+// Returns the first row that is not UTF-8, or `None`. The bytes are tested as a whole, and row by
+// row only if that does not show that each row is UTF-8.
 fn first_bad_text<O: Offset>(binary: &BinaryArray<O>) -> Option<usize>
     ensures { MatchOption result (AreTexts (offset_strings O.value binary.now))
         (IsFirstOther (offset_strings O.value binary.now)) }

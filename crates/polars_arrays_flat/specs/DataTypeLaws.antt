@@ -9,7 +9,9 @@ use Rattle.polars_arrays_flat.specs.declared.data_type.ArrowDataType.{Struct, Ro
 use Rattle.polars_arrays_flat.specs.declared.data_type.ArrowDataType.{end_of-Field, more_of-Field}
 use Rattle.polars_arrays_flat.specs.declared.data_type.ArrowDataType.{items-the_row-Field}
 use Rattle.polars_arrays_flat.specs.declared.data_type.ArrowDataType.{items_hidden-the_row-Field-0}
-use Rattle.polars_arrays_flat.specs.declared.data_type.ArrowDataType.TheBlock.{hidden-the_row-Field-0}
+use Rattle.polars_arrays_flat.specs.declared.data_type.ArrowDataType.TheBlock.{
+  hidden-the_row-Field-0,
+}
 use Rattle.polars_arrays_flat.specs.declared.data_type.Field.{Field}
 
 kinds_in-is : (m : _) (all : Row_of-Field m) → kinds_in all ≡ kinds_of (items-the_row-Field m all)

@@ -13,11 +13,11 @@ use polars_arrays_bits::bitmap::Bitmap;
 use polars_arrays_bits::error::ComputeError;
 use std::alloc::Global;
 
-/// A column of rows, kept as stored rows and a mask. A row is Null if it is masked, and the stored
-/// row otherwise.
+/// An array: stored rows, and a mask that says which of them are null. A row is null if it is
+/// masked, and the stored row otherwise.
 ///
-/// The validity is what an array stores, bit by bit. The mask says which rows are null, and kernels
-/// use the mask alone.
+/// The mask is the validity that the array stores, except in dictionaries, whose entries may be
+/// null too. Kernels read the mask.
 pub trait Array {
     // Stored rows, whatever the validity.
     ghost slots: { Self → List Row };

@@ -127,5 +127,6 @@ impl Array for BooleanArray {
         null_count(&self.validity)
     }
 
-    ghost null_law = { λ a b i within is_null. absurd (truth_slots-present a.values i within is_null) };
+    ghost null_law = { λ a b i within is_null. absurd
+        (truth_slots-present a.values i within is_null) };
 }

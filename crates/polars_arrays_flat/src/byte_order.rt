@@ -33,7 +33,7 @@ pub fn pair_less(p: u64, q: u64, n: usize, m: usize) -> bool
     (p < q) | ((p == q) & (n < m))
 }
 
-// Returns what `bytes_less` does, for byte strings that have more than eight places in common.
+// Returns the result of `bytes_less`, for byte strings that have more than eight places in common.
 #[inline]
 fn long_less(left: &[u8], right: &[u8], common: usize) -> bool
     requires common { common ≡ min (length left.now) (length right.now) }

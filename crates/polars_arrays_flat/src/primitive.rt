@@ -69,7 +69,7 @@ impl<T: Copy> PrimitiveArray<T> {
         self.values.as_mut_slice()
     }
 
-    // Returns what `is_owned` does, through a `&mut`.
+    // Returns the result of `is_owned`, through a `&mut`.
     fn owns(&mut self) -> bool
         ensures unchanged { self.new ≡ self.old }
         ensures owned { result ≡ self.old.owned }
@@ -170,7 +170,8 @@ impl<T: NativeType> PrimitiveArray<T> {
     /// Makes the stored values shared: later clones share them instead of copying. No value is
     /// moved. The error is `Memory`, which only an array that owns its values can cause.
     pub fn share(self, alloc: Global) -> Result<PrimitiveArray<T>, ComputeError>
-        ensures stored { MatchResult result (λ shared. shared ≡ record self { owned = false }) IsMemory }
+        ensures stored { MatchResult result
+            (λ shared. shared ≡ record self { owned = false }) IsMemory }
         ensures rows { IfOk result
             (λ shared. number_rows T.value shared ≡ number_rows T.value self) }
         ensures stays { IsFalse self.owned → IsOk result }
@@ -278,5 +279,6 @@ impl<T: NativeType> Array for PrimitiveArray<T> {
         null_count(&self.validity)
     }
 
-    ghost null_law = { λ a b i within is_null. absurd (number_slots-present T.value a.values i within is_null) };
+    ghost null_law = { λ a b i within is_null. absurd
+        (number_slots-present T.value a.values i within is_null) };
 }

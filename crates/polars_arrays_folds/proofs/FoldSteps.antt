@@ -43,7 +43,7 @@ module _ (joined : ℤ → ℤ → ℤ) (neutral : ℤ) (law : Folds joined neut
   folded-neutral [] = law.any_times
   folded-neutral (row ∷ rows) = row-neutral row (folded joined neutral rows) (folded-neutral rows)
 
-  -- rows and the rows behind them
+  -- rows and the rows after them
   pub folded-append : (rows more : List Row) → folded joined neutral (rows ++ more) ≡ joined (folded joined neutral rows) (folded joined neutral more)
   folded-append [] more = sym (folded-neutral more)
   folded-append (row ∷ rows) more =

@@ -43,14 +43,14 @@ rising n offsets from (suc m) good within =
     let next : from + suc m ≡ from + m + 1 = omega arith in
     subst (λ k. offset_at offsets from ≤ offset_at offsets k) (sym next) (omega (arith, before, step))
 
--- two windows of items, one behind the other
+-- two windows of items, one after the other
 joined : (f : ℕ → ℕ → ℕ) (a b c n : ℕ) → a ≤ b → b ≤ c → c ≤ n → ((from m k : ℕ) → from + m + k ≤ n → f from (m + k) ≡ f from m + f (from + m) k) → f a (c - a) ≡ f a (b - a) + f b (c - b)
 joined f a b c n low high within add =
     let whole : c - a ≡ (b - a) + (c - b) = omega (arith, low, high) in
     let there : a + (b - a) ≡ b = omega (arith, low) in
     ap (λ (k : ℕ). f a k) whole ∙ add a (b - a) (c - b) (omega (arith, low, high, within)) ∙ ap (λ (k : ℕ). f a (b - a) + f k (c - b)) there
 
--- a list's items lie in windows one behind the other
+-- a list's items lie in windows one after the other
 in_lists : (f : ℕ → ℕ → ℕ) (items : ℕ) (offsets : ListOffsets) (from m n : ℕ) → AreGood items (list_places offsets) → from + m + n ≤ row_count (list_places offsets) → ((from' m' n' : ℕ) → from' + m' + n' ≤ items → f from' (m' + n') ≡ f from' m' + f (from' + m') n') → f (offset_at offsets from) (offset_at offsets (from + (m + n)) - offset_at offsets from) ≡ f (offset_at offsets from) (offset_at offsets (from + m) - offset_at offsets from) + f (offset_at offsets (from + m)) (offset_at offsets (from + m + n) - offset_at offsets (from + m))
 in_lists f items offsets from m n good within add =
     let place : from + (m + n) ≡ from + m + n = omega arith in

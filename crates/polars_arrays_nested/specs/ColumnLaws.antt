@@ -19,7 +19,9 @@ use Rattle.polars_arrays_nested.specs.declared.any_array.AnyArray.{end_of-AnyArr
 use Rattle.polars_arrays_nested.specs.declared.any_array.AnyArray.{more_of-AnyArray}
 use Rattle.polars_arrays_nested.specs.declared.any_array.AnyArray.{items-the_row-AnyArray}
 use Rattle.polars_arrays_nested.specs.declared.any_array.AnyArray.{items_hidden-the_row-AnyArray-0}
-use Rattle.polars_arrays_nested.specs.declared.any_array.AnyArray.TheBlock.{hidden-the_row-AnyArray-0}
+use Rattle.polars_arrays_nested.specs.declared.any_array.AnyArray.TheBlock.{
+  hidden-the_row-AnyArray-0,
+}
 use Rattle.polars_arrays_nested.specs.declared.struct_array.StructArray.{StructArray}
 
 across_is : (m : _) (all : Row_of-AnyArray m) (i : ℕ) → across all i

@@ -4,7 +4,9 @@ use Rattle.polars_arrays_flat.specs.declared.data_type.Field.{Field}
 use Rattle.polars_arrays_nested.specs.declared.any_array.AnyArray.{AnyArray}
 use Rattle.polars_arrays_nested.specs.declared.dict_keys.DictKeys.{DictKeys}
 use Rattle.polars_arrays_nested.specs.declared.dictionary.DictionaryArray.{DictionaryArray}
-use Rattle.polars_arrays_nested.specs.declared.fixed_size_list.FixedSizeListArray.{FixedSizeListArray}
+use Rattle.polars_arrays_nested.specs.declared.fixed_size_list.FixedSizeListArray.{
+  FixedSizeListArray,
+}
 use Rattle.polars_arrays_nested.specs.declared.list.ListArray.{ListArray}
 use Rattle.polars_arrays_nested.specs.declared.list_offsets.ListOffsets.{ListOffsets}
 use Rattle.polars_arrays_nested.specs.declared.struct_array.StructArray.{StructArray}

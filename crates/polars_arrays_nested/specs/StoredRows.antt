@@ -9,7 +9,9 @@ use Rattle.polars_arrays_nested.specs.ListOffsets.{list_count, offset_at, span}
 use Rattle.polars_arrays_nested.specs.Parts.{columns, dictionary_keys, dictionary_values}
 use Rattle.polars_arrays_nested.specs.Parts.{fixed_values, fixed_width, list_offsets, list_values}
 use Rattle.polars_arrays_nested.specs.declared.dictionary.DictionaryArray.{DictionaryArray}
-use Rattle.polars_arrays_nested.specs.declared.fixed_size_list.FixedSizeListArray.{FixedSizeListArray}
+use Rattle.polars_arrays_nested.specs.declared.fixed_size_list.FixedSizeListArray.{
+  FixedSizeListArray,
+}
 use Rattle.polars_arrays_nested.specs.declared.list.ListArray.{ListArray}
 use Rattle.polars_arrays_nested.specs.declared.struct_array.StructArray.{StructArray}
 

@@ -169,8 +169,8 @@ impl AnyArray {
         map_array!(
             self,
             array => array.clone_array(alloc),
-            Null Boolean Int8 Int16 Int32 Int64 Int128 UInt8 UInt16 UInt32 UInt64 UInt128 Binary LargeBinary Utf8
-            LargeUtf8 BinaryView Utf8View FixedSizeBinary,
+            Null Boolean Int8 Int16 Int32 Int64 Int128 UInt8 UInt16 UInt32 UInt64 UInt128 Binary
+            LargeBinary Utf8 LargeUtf8 BinaryView Utf8View FixedSizeBinary,
             _ => unreachable!()
         )
     }

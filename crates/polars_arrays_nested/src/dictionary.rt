@@ -19,7 +19,9 @@ ghost use Rattle.polars_arrays_nested.specs.StoredRows.{stored_entry, stored_ent
 ghost use Rattle.polars_arrays_nested.specs.StoredRowLaws.{listed-present};
 ghost use Rattle.polars_arrays_nested.specs.Types.{type_of};
 ghost use Rattle.polars_arrays_nested.specs.declared.any_array.AnyArray.{Dictionary, size-AnyArray};
-ghost use Rattle.polars_arrays_nested.specs.declared.dictionary.DictionaryArray.{size-DictionaryArray};
+ghost use Rattle.polars_arrays_nested.specs.declared.dictionary.DictionaryArray.{
+  size-DictionaryArray,
+};
 
 use crate::any_array::AnyArray;
 use crate::dict_keys::DictKeys;

@@ -18,7 +18,9 @@ ghost use Rattle.polars_arrays_nested.specs.StoredRowLaws.{listed-present};
 ghost use Rattle.polars_arrays_nested.specs.Types.{type_of};
 ghost use Rattle.polars_arrays_nested.specs.declared.any_array.AnyArray.{FixedSizeList};
 ghost use Rattle.polars_arrays_nested.specs.declared.any_array.AnyArray.{size-AnyArray};
-ghost use Rattle.polars_arrays_nested.specs.declared.fixed_size_list.FixedSizeListArray.{size-FixedSizeListArray};
+ghost use Rattle.polars_arrays_nested.specs.declared.fixed_size_list.FixedSizeListArray.{
+  size-FixedSizeListArray,
+};
 
 use crate::any_array::AnyArray;
 use polars_arrays_bits::bitmap::Bitmap;

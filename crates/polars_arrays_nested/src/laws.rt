@@ -15,7 +15,9 @@ ghost use Rattle.polars_arrays_nested.specs.StoredRows.{stored_lists, stored_str
 ghost use Rattle.polars_arrays_nested.specs.declared.any_array.AnyArray.{List, FixedSizeList};
 ghost use Rattle.polars_arrays_nested.specs.declared.any_array.AnyArray.{Struct, Dictionary};
 ghost use Rattle.polars_arrays_nested.specs.declared.dictionary.DictionaryArray.{DictionaryArray};
-ghost use Rattle.polars_arrays_nested.specs.declared.fixed_size_list.FixedSizeListArray.{FixedSizeListArray};
+ghost use Rattle.polars_arrays_nested.specs.declared.fixed_size_list.FixedSizeListArray.{
+  FixedSizeListArray,
+};
 ghost use Rattle.polars_arrays_nested.specs.declared.list.ListArray.{ListArray};
 ghost use Rattle.polars_arrays_nested.specs.declared.struct_array.StructArray.{StructArray};
 
@@ -31,8 +33,8 @@ pub fn law_leaves()
 pub fn law_rows()
     ensures lists { (a : ListArray) → IsGood (List a) → rows (List a)
         ≡ rows_under (list_validity a) (stored_lists a) }
-    ensures fixed_lists { (a : FixedSizeListArray) → IsGood (FixedSizeList a) → rows (FixedSizeList a)
-        ≡ rows_under (fixed_validity a) (stored_fixed_lists a) }
+    ensures fixed_lists { (a : FixedSizeListArray) → IsGood (FixedSizeList a)
+        → rows (FixedSizeList a) ≡ rows_under (fixed_validity a) (stored_fixed_lists a) }
     ensures structs { (a : StructArray) → IsGood (Struct a) → rows (Struct a)
         ≡ rows_under (struct_validity a) (stored_structs a) }
     ensures entries { (a : DictionaryArray) → IsGood (Dictionary a)

@@ -81,14 +81,14 @@ impl ListArray {
         }
     }
 
-    /// Returns the offsets of the lists among the items.
+    /// Returns the offsets: list i has the items from offset i up to offset i + 1.
     pub fn offsets(&self) -> &ListOffsets
         ensures { result.now ≡ list_offsets self.now }
     {
         &self.offsets
     }
 
-    /// Returns all stored items. Some of them may lie in no list.
+    /// Returns the array of all items, also of those that lie in no list.
     pub fn values(&self) -> &AnyArray
         ensures values { result.now ≡ list_values self.now }
         ensures smaller { size-AnyArray result.now < size-ListArray self.now }

@@ -95,17 +95,18 @@ impl StructArray {
         &self.fields
     }
 
-    /// Returns the arrays of the fields.
+    /// Returns the columns, one array for each field.
     pub fn values(&self) -> &[AnyArray]
         ensures { result.now ≡ columns self.now }
     {
         &self.values
     }
 
-    /// Returns the array of field `i`.
+    /// Returns column `i`, the array of field `i`.
     pub fn column(&self, i: usize) -> &AnyArray
         requires { i < length (columns self.now) }
-        ensures column { (other : AnyArray) → slice_index_or (columns self.now) i other ≡ result.now }
+        ensures column { (other : AnyArray) → slice_index_or (columns self.now) i other
+            ≡ result.now }
         ensures good { IsGood (Struct self.now) → IsGood result.now
             × (len_of result.now ≡ len_of (Struct self.now)) }
         ensures smaller { size-AnyArray result.now < size-StructArray self.now }

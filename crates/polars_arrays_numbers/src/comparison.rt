@@ -13,9 +13,9 @@ pub trait Comparison<L, R> {
     fn compare(&self, left: L, right: R) -> bool
         ensures { result ≡ holds self.now left right };
 
-    /// Returns whether results are packed into bits one by one instead of by 64 flags and one
-    /// vector operation. That is faster for elements of more than 64 bits. The results are the same
-    /// either way.
+    /// Returns whether results are packed into bits eight at a time, in registers. Otherwise each
+    /// is first written to a byte, and a vector operation packs many bytes at once. Registers are
+    /// faster for elements of more than 64 bits. The results are the same either way.
     #[inline(always)]
     fn packs_by_bit(&self) -> bool {
         false

@@ -7,14 +7,14 @@ use num_traits::{Bounded, FixedWidth};
 
 /// A type of whole numbers of fixed width, in two's complement if it is signed.
 ///
-/// A clause reads a value `x` of such a type `T` as the whole number `T.value x`.
+/// In clauses `T.value x` is the whole number that a value `x` of such a type `T` stands for.
 pub trait NativeType: Copy + Ord + Bounded + FixedWidth + 'static {
     /// Returns the width of a value in bits.
     fn width() -> u32
         ensures { result ≡ bit_len Self.width };
 
-    /// Returns whether the type is signed. Sign and width determine its least and its greatest
-    /// number.
+    /// Returns whether the type has numbers below 0. This and the width determine its least and its
+    /// greatest number.
     fn is_signed() -> bool
         ensures below_zero { IsTrue result ↔ (Self.low <ℤ pos 0) }
         ensures least { Self.low ≡ least_of result (bit_len Self.width) }

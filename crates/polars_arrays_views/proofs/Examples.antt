@@ -162,7 +162,7 @@ GoodView-unpadded good =
     let last = good.short (omega arith) 10 (omega arith) in
     absurd (omega (arith, last))
 
--- the row ends behind the buffer
+-- the row ends past the end of the buffer
 InBuffer-far : InBuffer (thirteen ∷ []) far_view → ⊥
 unfolding view_len view_buffer view_offset
 InBuffer-far inside = let fits = inside.fits in absurd (omega arith)

@@ -43,13 +43,13 @@ length-behind buffers v good = simp length-drop (omega (arith, good.view.size))
 zeros_behind : (v : List ℕ) → AllZero (drop (4 + view_len v) v) → AllZero (drop (view_len v) (drop 4 v))
 zeros_behind v zeros = rw drop-drop zeros
 
--- the bytes of a short row, with zeros behind them
+-- the bytes of a short row, with zeros after them
 pub inlined_tail : (v : List ℕ) → IsView v → view_len v ≤ 12 → AllZero (drop (4 + view_len v) v) → drop 4 v ≡ padded 12 (take (view_len v) (drop 4 v))
 inlined_tail v view short zeros =
     let size : length (drop 4 v) ≡ 12 = simp length-drop (omega (arith, view.size)) in
     sym (rw size at (take-length (drop 4 v))) ∙ padded_zeros 12 (view_len v) (drop 4 v) (omega arith) (zeros_behind v zeros)
 
--- a short view is its row with zeros behind it
+-- a short view is its row with zeros after it
 pub short_tail : (buffers : List (List ℕ)) (v : List ℕ) → GoodView buffers v → view_len v ≤ 12 → drop 4 v ≡ padded 12 (row_bytes buffers v)
 short_tail buffers v good short =
     inlined_tail v good.view short (good.short short) ∙ ap (padded 12) (sym (short_row buffers v short))

@@ -106,7 +106,7 @@ module _ (v w : List ℕ) (view : IsView v) (view_too : IsView w) (short : view_
       (bytes_drop 8 v view.bytes) (bytes_drop 8 w view_too.bytes)
       ∙ (λ i. slice_cmp nat_cmp (sym (drop-drop 4 4 v) i) (sym (drop-drop 4 4 w) i))
 
-  -- the prefixes decide, or else the bytes behind them, or else the lengths
+  -- the prefixes decide, or else the bytes after them, or else the lengths
   pub inlined_decide : slice_cmp nat_cmp (take (view_len v) (drop 4 v)) (take (view_len w) (drop 4 w))
       ≡ ordering_then (nat_cmp (from_be_bytes w32 (view_prefix v)) (from_be_bytes w32 (view_prefix w))) (ordering_then (nat_cmp (from_be_bytes w64 (drop 8 v)) (from_be_bytes w64 (drop 8 w))) (nat_cmp (view_len v) (view_len w)))
   inlined_decide =

@@ -126,7 +126,7 @@ padded_parts (suc n) (x ∷ xs) within =
     let count : n - length xs ≡ suc n - suc (length xs) = omega arith in
     ap (λ (rest : List ℕ). x ∷ rest) (padded_parts n xs (omega arith)) ∙ ap (λ (k : ℕ). x ∷ (xs ++ replicate k 0)) count
 
--- what lies behind a part of sixteen bytes that was written
+-- what lies after a part of sixteen bytes that was written
 pub behind : (n : ℕ) (xs : List ℕ) → length xs ≡ n → n ≤ 12 → xs ++ drop n (replicate 12 0) ≡ padded 12 xs
 behind n xs size within =
     ap (λ (rest : List ℕ). xs ++ rest) (drop-replicate n 12 0 ∙ ap (λ (k : ℕ). replicate (12 - k) 0) (sym size)) ∙ sym (padded_parts 12 xs (omega arith))

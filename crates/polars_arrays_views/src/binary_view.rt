@@ -56,7 +56,8 @@ impl Model for BinaryViewArray {
 impl BinaryViewArray {
     /// Creates an array of a view for each row, the buffers of long rows, and a validity. The error
     /// is `Length`, if the validity does not have a bit for each view; otherwise `View` with the
-    /// first row, masked or not, whose view describes no row of the buffers.
+    /// first row, null or not, whose view is bad: it points outside of its buffer, its prefix is
+    /// not that of the bytes, or a row of at most 12 bytes is not filled up with zeros.
     pub fn try_new(
         views: Buffer<View>,
         buffers: Vec<Buffer<u8>>,
@@ -206,7 +207,8 @@ impl Array for BinaryViewArray {
         null_count(&self.validity)
     }
 
-    ghost null_law = { λ a b i within is_null. absurd (byte_slots-present (view_strings a) i within is_null) };
+    ghost null_law = { λ a b i within is_null. absurd
+        (byte_slots-present (view_strings a) i within is_null) };
 }
 
 impl ByteRows for BinaryViewArray {
@@ -223,7 +225,7 @@ impl ByteRows for BinaryViewArray {
     ghost slots_law = { λ a. refl };
 }
 
-// Returns the first row whose view describes no row of these buffers.
+// Returns the first row whose view is not good over these buffers.
 fn first_bad_view(views: &[View], buffers: &[Buffer<u8>]) -> Option<usize>
     ensures { MatchOption result (All (GoodView (contents buffers.now)) views.now)
         (IsFirstBadView (contents buffers.now) views.now) }

@@ -46,8 +46,8 @@ pub fn rows_equal(
     left.value(i) == right.value(j)
 }
 
-/// Returns whether two views are equal. If the first row lies in its view, this is whether the rows
-/// are equal.
+/// Returns whether two views have the same sixteen bytes. If the row of `v` lies in its view (at
+/// most 12 bytes), that is whether the rows are equal; otherwise it is only a guess.
 #[inline(always)]
 pub fn guess_equal(v: &View, w: &View) -> bool
     ensures { (buffers others : List (List ℕ)) → GoodView buffers v.now → GoodView others w.now

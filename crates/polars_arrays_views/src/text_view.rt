@@ -50,8 +50,8 @@ impl Model for Utf8ViewArray {
 impl Utf8ViewArray {
     /// Creates an array of a view for each row, the buffers of long rows, and a validity. The error
     /// is `Length`, if the validity does not have a bit for each view; otherwise `View` with the
-    /// first row whose view describes no row of the buffers; otherwise `NotUtf8` with the first row
-    /// whose bytes alone are not UTF-8. Masked rows are checked too.
+    /// first row whose view is bad, as in `BinaryViewArray::try_new`; otherwise `NotUtf8` with the
+    /// first row whose bytes alone are not UTF-8. Masked rows are checked too.
     pub fn try_new(
         views: Buffer<View>,
         buffers: Vec<Buffer<u8>>,
@@ -175,7 +175,8 @@ impl Array for Utf8ViewArray {
         self.binary.null_count()
     }
 
-    ghost null_law = { λ a b i within is_null. absurd (byte_slots-present (view_strings a) i within is_null) };
+    ghost null_law = { λ a b i within is_null. absurd
+        (byte_slots-present (view_strings a) i within is_null) };
 }
 
 impl ByteRows for Utf8ViewArray {

@@ -133,7 +133,8 @@ impl View {
         &buffer.as_slice()[at..at + self.len()]
     }
 
-    /// Returns whether the view describes a row of these buffers.
+    /// Returns whether the view is good: a row of at most 12 bytes is filled up with zeros, and a
+    /// longer one lies in one of these buffers and begins with the prefix.
     pub fn is_good(&self, buffers: &[Buffer<u8>]) -> bool
         ensures { IsTrue result ↔ GoodView (contents buffers.now) self.now }
     {

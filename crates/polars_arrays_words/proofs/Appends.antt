@@ -1,4 +1,4 @@
--- Words and truth values written behind bits that are kept.
+-- Words and truth values written after bits that are kept.
 use Rattle.std.proofs.Common.{◌≡◌, ℕ, ◌+◌, ◌-◌, ◌*◌, ◌/◌, ◌%◌, ◌^◌, ◌<◌, ◌≤◌, Bool, false, eqb, ◌||◌, List, length, get_or, set, bit_and, refl, sym, ap, ◌∙◌, arith}
 use Rattle.std.proofs.lemmas.Bool.{cases_eq, cases_lt}
 use Rattle.std.proofs.lemmas.List.{length-set, set_past}
@@ -84,7 +84,7 @@ appended-none words from values = record {
   added = λ i lt. absurd (omega arith);
 }
 
--- a word that begins with the next truth values, put behind those before it
+-- a word that begins with the next truth values, put after those before it
 pub appended-more :
     (old mid new : List ℕ) (from word : ℕ) (values : List Bool) (n count : ℕ) → from + (n + count) ≤ 64 * length old → count ≤ 64 →
     ((i : ℕ) → i < count → is_bit word i ≡ get_or values (n + i) false) → AreAppended old mid from values n → IsPut mid new (from + n) word → AreAppended old new from values (n + count)

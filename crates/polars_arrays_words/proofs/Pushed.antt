@@ -1,4 +1,4 @@
--- Words pushed behind others.
+-- Words pushed after others.
 use Rattle.std.proofs.Common.{◌≡◌, ℕ, ◌+◌, ◌-◌, Bool, List, [], ◌∷◌, ◌++◌, length, get_or, sym, ap, ◌∙◌, subst, below_more, arith}
 use Rattle.std.proofs.lemmas.List.{length-append, get_or_append_left, get_or-append_right}
 use Rattle.polars_arrays_words.specs.Bits.{IsWord, AreWords}

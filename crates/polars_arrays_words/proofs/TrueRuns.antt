@@ -68,7 +68,7 @@ later-tells word at n fits within =
     (leb-zero (trailing_ones w64 (word / 2 ^ (at % 64)))))
     (cases_lt at 64)
 
--- a run, and the one behind it
+-- a run, and the one after it
 all-append :
     (words : List ℕ) (begin m n : ℕ) →
     list_all (λ b. b) (window begin (m + n) words) ≡ (list_all (λ b. b) (window begin m words) && list_all (λ b. b) (window (begin + m) n words))
@@ -79,7 +79,7 @@ all-append words begin m n =
     ap (list_all (λ b. b)) (first-append (λ i. bit_of words (begin + i)) m n ∙ ap (λ l. window begin m words ++ l) same)
     ∙ list_all-append (λ b. b) (window begin m words) (window (begin + m) n words)
 
--- behind a run that is true, the rest decides
+-- after a run that is true, the rest decides
 pub all-more :
     (words : List ℕ) (by at m n : ℕ) (more : Bool) → list_all (λ b. b) (window (by + at) m words) ≡ true →
     more ≡ list_all (λ b. b) (window (by + (at + m)) n words) → more ≡ list_all (λ b. b) (window (by + at) (m + n) words)
@@ -89,7 +89,7 @@ all-more words by at m n more before rest =
     ∙ ap (λ p. list_all (λ b. b) (window p n words)) place
     ∙ sym (all-append words (by + at) m n ∙ ap (λ b. b && list_all (λ b. b) (window (by + at + m) n words)) before)
 
--- a run with a false bit, and more behind it
+-- a run with a false bit, and more after it
 pub all-fails : (words : List ℕ) (begin m n : ℕ) → list_all (λ b. b) (window begin m words) ≡ false → m ≤ n → list_all (λ b. b) (window begin n words) ≡ false
 all-fails words begin m n e le =
     let split : n ≡ m + (n - m) = omega arith in

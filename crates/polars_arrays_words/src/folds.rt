@@ -88,8 +88,9 @@ fn word_at(words: &[u64], by: usize, k: usize) -> u64
     join_from(word_or_zero(words, k), word_or_zero(words, k + 1), by)
 }
 
-/// Pairs of the bits from bit `by` of the first word on. Bit `i` is whether both bits of pair `i`
-/// are true, and false past the end.
+/// Pairs of adjacent bits, from bit `by` of the first word on. Bit `i` is whether both bits of pair
+/// `i` are true, and false past the end. (Two slices that are compared are `Pairs` of `slices.rt`
+/// in `polars_arrays_bits`.)
 #[derive(Drop)]
 pub struct Pairs<'a> {
     pub words: &'a [u64],
@@ -128,8 +129,8 @@ impl BitSource for Pairs<'_> {
     }
 }
 
-/// Fours of the bits from bit `by` of the first word on. Bit `i` is whether all bits of four `i`
-/// are true, and false past the end.
+/// Fours of adjacent bits, from bit `by` of the first word on. Bit `i` is whether all bits of four
+/// `i` are true, and false past the end.
 #[derive(Drop)]
 pub struct Fours<'a> {
     pub words: &'a [u64],
@@ -187,7 +188,8 @@ pub struct Blocks<'a> {
 impl TruthValues for Blocks<'_> {
     ghost use Rattle.polars_arrays_words.specs.Bits.{first_of};
 
-    ghost values = { λ b. first_of (block_true b.width (λ p. bit_of b.words.now (b.by + p))) b.count };
+    ghost values = { λ b. first_of (block_true b.width (λ p. bit_of b.words.now (b.by + p)))
+        b.count };
 
     #[inline(always)]
     fn len(&self) -> usize {
@@ -199,7 +201,7 @@ impl TruthValues for Blocks<'_> {
         all_set(self.words, self.by, self.width * i, self.width)
     }
 
-    // Packs bit by bit, since each value reads bits of two words.
+    // Packs in registers, since each value reads bits of two words.
     #[inline(always)]
     fn packs_by_bit(&self) -> bool {
         true

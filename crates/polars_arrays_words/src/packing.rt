@@ -23,8 +23,10 @@ pub trait TruthValues {
         requires { i < length (values self.now) }
         ensures { result ≡ slice_index_or (values self.now) i false };
 
-    /// Returns whether truth values are packed one by one instead of by 64 flags and one vector
-    /// operation. That is faster if each is computed from more than 64 bits. The results are the
+    /// Returns whether truth values are packed eight at a time, in registers (`pack_by_bytes`).
+    /// Otherwise each is first written to a flag of a byte, and a vector operation packs the flags:
+    /// 64 at once in `pack_by_flags`, and in `pack_few` 16 at once, by `pack_by_sixteens`.
+    /// Registers are faster if each value is computed from more than 64 bits. The results are the
     /// same either way.
     #[inline(always)]
     fn packs_by_bit(&self) -> bool {
@@ -96,7 +98,8 @@ fn pack_by_flags<V: TruthValues>(values: &V, at: usize, count: usize) -> u64
 pub fn put(word: u64, more: u64, by: usize) -> u64
     requires { by < 64 }
     ensures below { (i : ℕ) → i < by → is_bit result i ≡ is_bit word i }
-    ensures above { (i : ℕ) → i < 64 - by → is_bit result (by + i) ≡ (is_bit word (by + i) || is_bit more i) }
+    ensures above { (i : ℕ) → i < 64 - by → is_bit result (by + i)
+        ≡ (is_bit word (by + i) || is_bit more i) }
 {
     word | (more << by)
 }
@@ -212,7 +215,8 @@ pub fn pack_few<V: TruthValues>(values: &V, at: usize, count: usize) -> u64
     }
 }
 
-/// Truth values as the bits of words, and false after them.
+/// Truth values that are not packed yet, as a source of bits: a word is packed when it is read.
+/// Bits past the last value are false.
 #[derive(Drop)]
 pub struct Packed<'a, V> {
     pub values: &'a V,

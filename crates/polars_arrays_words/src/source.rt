@@ -13,7 +13,8 @@ pub trait BitSource {
 
     ghost inner: { Self → ℕ };
 
-    /// Returns the number of leading words that `inner_word` can read.
+    /// Returns the number of inner words: the leading ones that `inner_word` can read, since all
+    /// that it reads for them lies within the source.
     fn inner_words(&self) -> usize
         ensures { result ≡ inner self.now };
 
@@ -25,12 +26,13 @@ pub trait BitSource {
         false
     }
 
-    /// Returns word `k`, without a bounds check.
+    /// Returns inner word `k`. It indexes without a check at run time, since `requires` proves `k`
+    /// in range.
     fn inner_word(&self, k: usize) -> u64
         requires { k < inner self.now }
         ensures { IsWord (bit self.now) k result };
 
-    /// Returns word `k`.
+    /// Returns word `k`, inner or not.
     fn word(&self, k: usize) -> u64
         requires { k < 2 ^ 58 }
         ensures { IsWord (bit self.now) k result };

@@ -26,7 +26,7 @@ pub(crate) fn join(low: u64, high: u64, by: usize) -> u64
     (low >> by) | (high << (64 - by))
 }
 
-// Returns what `join` does, in a form for loops over words. The compiler makes `join` an
+// Returns the result of `join`, in a form for loops over words. The compiler makes `join` an
 // instruction that shifts two words, and that one has no vector form. It vectorizes these two
 // shifts, which share no bit. It would vectorize `^` as well, except `^` of two joins: there it
 // reorders all four shifts.
@@ -39,7 +39,7 @@ pub(crate) fn join_lanes(low: u64, high: u64, by: usize) -> u64
     (low >> by) + (high << (64 - by))
 }
 
-// Returns what `join` does, for any `by` below 64. It is compiled to one shift of two words,
+// Returns the result of `join`, for any `by` below 64. It is compiled to one shift of two words,
 // without a branch.
 #[inline]
 pub(crate) fn join_from(low: u64, high: u64, by: usize) -> u64

@@ -22,7 +22,8 @@ use std::alloc::Global;
 impl<O: Offset + 'static> TotalEqKernel for BinaryArray<O> {
     type Scalar = Vec<u8>;
 
-    ghost comparable = { λ a b. length (offset_strings O.value a) ≡ length (offset_strings O.value b) };
+    ghost comparable = { λ a b. length (offset_strings O.value a)
+        ≡ length (offset_strings O.value b) };
 
     ghost broadcasts = { true };
 
@@ -80,7 +81,8 @@ impl<O: Offset + 'static> TotalEqKernel for BinaryArray<O> {
         BytesEqKernel::tot_ne_kernel_broadcast(self, alloc, other.as_slice())
     }
 
-    ghost comparable_law = { λ a b e. byte_slots-as_long (offset_strings O.value a) (offset_strings O.value b) e };
+    ghost comparable_law = { λ a b e. byte_slots-as_long (offset_strings O.value a)
+        (offset_strings O.value b) e };
 
     ghost scalar_law = { λ s has e. cc };
 }

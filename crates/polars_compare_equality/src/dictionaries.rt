@@ -68,7 +68,8 @@ impl TotalEqKernel for DictionaryArray {
         Err(ComputeError::Unsupported)
     }
 
-    ghost comparable_law = { λ a b can. listed-as_long (stored_entry a) (stored_entry b) _ _ can.0 };
+    ghost comparable_law = { λ a b can. listed-as_long (stored_entry a) (stored_entry b) _ _
+        can.0 };
 
     ghost scalar_law = { λ s has e. cc };
 }

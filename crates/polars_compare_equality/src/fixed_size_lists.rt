@@ -73,7 +73,8 @@ impl TotalEqKernel for FixedSizeListArray {
         equal.not(alloc)
     }
 
-    ghost comparable_law = { λ a b can. listed-as_long (stored_fixed_list a) (stored_fixed_list b) _ _ can.0 };
+    ghost comparable_law = { λ a b can. listed-as_long (stored_fixed_list a) (stored_fixed_list b) _
+        _ can.0 };
 
     ghost scalar_law = { λ s has e. cc };
 }

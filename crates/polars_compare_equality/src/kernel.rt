@@ -40,14 +40,15 @@ pub trait TotalEqKernel: Sized + Array {
     // The row of a scalar.
     ghost scalar_row: { Self.Scalar → Row };
 
-    /// Returns whether the two arrays can be compared: their lengths are equal, and what the kind
-    /// requires besides.
+    /// Returns whether the two arrays can be compared: their lengths are equal, for lists and
+    /// dictionaries also their types, for lists of one width the types of their items.
     fn can_compare(&self, other: &Self) -> bool
         requires good { Self.good self.now }
         requires good_other { Self.good other.now }
         ensures { IsTrue result ↔ comparable self.now other.now };
 
-    /// Returns whether the array can be compared with the scalar.
+    /// Returns whether a broadcast can compare the array with the scalar: for lists, whether the
+    /// scalar is an array of the items' type; for all other kinds, always.
     fn can_broadcast(&self, other: &Self::Scalar) -> bool
         requires good { Self.good self.now }
         requires good_other { good_scalar other.now }
@@ -164,7 +165,8 @@ pub trait TotalEqKernel: Sized + Array {
     }
 
     // Arrays that can be compared have equal lengths.
-    ghost comparable_law: { (a b : Self) → comparable a b → length (Self.slots a) ≡ length (Self.slots b) };
+    ghost comparable_law: { (a b : Self) → comparable a b → length (Self.slots a)
+        ≡ length (Self.slots b) };
 
     // No scalar is Null, if the kind has broadcasts.
     ghost scalar_law: { (s : Self.Scalar) → IsTrue broadcasts → scalar_row s ≢ Null };

@@ -23,7 +23,8 @@ use std::alloc::Global;
 impl TotalEqKernel for ListArray {
     type Scalar = AnyArray;
 
-    ghost comparable = { λ a b. (len_of (List a) ≡ len_of (List b)) × (type_of (List a) ≡ type_of (List b)) };
+    ghost comparable = { λ a b. (len_of (List a) ≡ len_of (List b))
+        × (type_of (List a) ≡ type_of (List b)) };
 
     ghost broadcasts = { true };
 

@@ -19,7 +19,8 @@ use std::alloc::Global;
 impl<O: Offset + 'static> TotalEqKernel for Utf8Array<O> {
     type Scalar = String;
 
-    ghost comparable = { λ a b. length (offset_strings O.value a) ≡ length (offset_strings O.value b) };
+    ghost comparable = { λ a b. length (offset_strings O.value a)
+        ≡ length (offset_strings O.value b) };
 
     ghost broadcasts = { true };
 
@@ -77,7 +78,8 @@ impl<O: Offset + 'static> TotalEqKernel for Utf8Array<O> {
         TextEqKernel::tot_ne_kernel_broadcast(self, alloc, other.as_str())
     }
 
-    ghost comparable_law = { λ a b e. byte_slots-as_long (offset_strings O.value a) (offset_strings O.value b) e };
+    ghost comparable_law = { λ a b e. byte_slots-as_long (offset_strings O.value a)
+        (offset_strings O.value b) e };
 
     ghost scalar_law = { λ s has e. cc };
 }

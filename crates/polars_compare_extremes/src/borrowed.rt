@@ -39,7 +39,7 @@ pub trait BytesMinMaxKernel: ByteRows {
         Some((least, greatest))
     }
 
-    /// Returns what `min_ignore_nan_kernel` does.
+    /// Returns the result of `min_ignore_nan_kernel`: no row is a NaN.
     final fn min_propagate_nan_kernel(&self) -> Option<&[u8]>
         ensures { MatchOption result
             (NonePresent (rows_under (Self.mask self.now) (Self.slots self.now)))
@@ -49,7 +49,7 @@ pub trait BytesMinMaxKernel: ByteRows {
         self.min_ignore_nan_kernel()
     }
 
-    /// Returns what `max_ignore_nan_kernel` does.
+    /// Returns the result of `max_ignore_nan_kernel`: no row is a NaN.
     final fn max_propagate_nan_kernel(&self) -> Option<&[u8]>
         ensures { MatchOption result
             (NonePresent (rows_under (Self.mask self.now) (Self.slots self.now)))
@@ -59,7 +59,7 @@ pub trait BytesMinMaxKernel: ByteRows {
         self.max_ignore_nan_kernel()
     }
 
-    /// Returns what `min_max_ignore_nan_kernel` does.
+    /// Returns the result of `min_max_ignore_nan_kernel`: no row is a NaN.
     final fn min_max_propagate_nan_kernel(&self) -> Option<(&[u8], &[u8])>
         ensures { MatchOption result
             (NonePresent (rows_under (Self.mask self.now) (Self.slots self.now)))
@@ -104,7 +104,7 @@ pub trait TextMinMaxKernel: ByteRows {
         Some((least, greatest))
     }
 
-    /// Returns what `min_ignore_nan_kernel` does.
+    /// Returns the result of `min_ignore_nan_kernel`: no row is a NaN.
     final fn min_propagate_nan_kernel(&self) -> Option<&str>
         ensures { MatchOption result
             (NonePresent (rows_under (Self.mask self.now) (Self.slots self.now)))
@@ -114,7 +114,7 @@ pub trait TextMinMaxKernel: ByteRows {
         self.min_ignore_nan_kernel()
     }
 
-    /// Returns what `max_ignore_nan_kernel` does.
+    /// Returns the result of `max_ignore_nan_kernel`: no row is a NaN.
     final fn max_propagate_nan_kernel(&self) -> Option<&str>
         ensures { MatchOption result
             (NonePresent (rows_under (Self.mask self.now) (Self.slots self.now)))
@@ -124,7 +124,7 @@ pub trait TextMinMaxKernel: ByteRows {
         self.max_ignore_nan_kernel()
     }
 
-    /// Returns what `min_max_ignore_nan_kernel` does.
+    /// Returns the result of `min_max_ignore_nan_kernel`: no row is a NaN.
     final fn min_max_propagate_nan_kernel(&self) -> Option<(&str, &str)>
         ensures { MatchOption result
             (NonePresent (rows_under (Self.mask self.now) (Self.slots self.now)))

@@ -66,7 +66,7 @@ pub fn dyn_array_max_ignore_nan(array: &AnyArray) -> Result<Option<AnyScalar<'_>
     any_extreme(array, Extreme::Greatest)
 }
 
-/// Returns what `dyn_array_min_ignore_nan` does.
+/// Returns the result of `dyn_array_min_ignore_nan`: no row is a NaN.
 pub fn dyn_array_min_propagate_nan(array: &AnyArray) -> Result<Option<AnyScalar<'_>>, ComputeError>
     ensures { AnswersKind (type_of array.now) result
         (IsExtreme Extreme.Least (type_of array.now) (rows array.now)) }
@@ -74,7 +74,7 @@ pub fn dyn_array_min_propagate_nan(array: &AnyArray) -> Result<Option<AnyScalar<
     any_extreme(array, Extreme::Least)
 }
 
-/// Returns what `dyn_array_max_ignore_nan` does.
+/// Returns the result of `dyn_array_max_ignore_nan`: no row is a NaN.
 pub fn dyn_array_max_propagate_nan(array: &AnyArray) -> Result<Option<AnyScalar<'_>>, ComputeError>
     ensures { AnswersKind (type_of array.now) result
         (IsExtreme Extreme.Greatest (type_of array.now) (rows array.now)) }

@@ -37,7 +37,7 @@ pub trait MinMaxKernel {
         Some((least, greatest))
     }
 
-    /// Returns what `min_ignore_nan_kernel` does.
+    /// Returns the result of `min_ignore_nan_kernel`: no row is a NaN.
     final fn min_propagate_nan_kernel(&self) -> Option<Self::Scalar>
         ensures { MatchOption result (NonePresent (rows self.now))
             (λ found. IsLeast (rows self.now) (scalar_row found)) }
@@ -45,7 +45,7 @@ pub trait MinMaxKernel {
         self.min_ignore_nan_kernel()
     }
 
-    /// Returns what `max_ignore_nan_kernel` does.
+    /// Returns the result of `max_ignore_nan_kernel`: no row is a NaN.
     final fn max_propagate_nan_kernel(&self) -> Option<Self::Scalar>
         ensures { MatchOption result (NonePresent (rows self.now))
             (λ found. IsGreatest (rows self.now) (scalar_row found)) }
@@ -53,7 +53,7 @@ pub trait MinMaxKernel {
         self.max_ignore_nan_kernel()
     }
 
-    /// Returns what `min_max_ignore_nan_kernel` does.
+    /// Returns the result of `min_max_ignore_nan_kernel`: no row is a NaN.
     final fn min_max_propagate_nan_kernel(&self) -> Option<(Self::Scalar, Self::Scalar)>
         ensures { MatchOption result (NonePresent (rows self.now))
             (λ pair. IsLeast (rows self.now) (scalar_row pair.0)

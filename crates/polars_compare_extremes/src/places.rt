@@ -13,7 +13,7 @@ use polars_arrays_bits::bitmap::Bitmap;
 use polars_arrays_flat::byte_rows::ByteRows;
 use polars_arrays_flat::validity::is_present;
 
-// Returns the first present one of `n` rows.
+// Returns the place of the first present row among `n` rows, or `None` if all are null.
 pub(crate) fn first_present(present: Option<&Bitmap>, n: usize) -> Option<usize>
     requires { HasBits n (option_copied present) }
     ensures { MatchOption result

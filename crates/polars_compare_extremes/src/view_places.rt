@@ -44,7 +44,8 @@ fn best_view_from<P: Preference>(
     first: usize,
 ) -> usize
     requires bits { HasBits (length (view_strings array.now)) (option_copied present) }
-    requires first { IsFirstPresent (length (view_strings array.now)) (option_copied present) first }
+    requires first { IsFirstPresent (length (view_strings array.now)) (option_copied present)
+        first }
     ensures { IsBestSlot P.rows (string_row (view_strings array.now)) (option_copied present.entry)
         (length (view_strings array.now)) result }
 {

@@ -20,16 +20,17 @@ use polars_arrays_numbers::comparison::{
 };
 use std::alloc::Global;
 
-/// A comparison operator of booleans, such as equality or "less than".
+/// One of the six comparisons (equal, unequal, less and so on) of truth values.
 pub trait TruthComparison {
     // Its meaning: the comparison of two rows.
     ghost rows: { Row → Row → Bool };
 
-    /// Compares two truth values.
+    /// Returns whether the comparison holds of two truth values.
     fn compare(&self, left: bool, right: bool) -> bool
         ensures { result ≡ rows (Truth left) (Truth right) };
 
-    /// Compares the bits of two windows of equal length, place by place. The error is `Memory`.
+    /// Returns a bitmap with a bit for each place of two windows of equal length, set where the
+    /// comparison holds of the two bits. The error is `Memory`.
     fn compare_masks(
         &self,
         alloc: Global,

@@ -27,7 +27,7 @@ pub trait ByteComparison {
     // The comparison of rows.
     ghost rows: { Row → Row → Bool };
 
-    /// Compares two byte strings.
+    /// Returns whether the comparison holds of two byte strings.
     fn compare(&self, left: &[u8], right: &[u8]) -> bool
         ensures { result ≡ rows (Bytes left.now) (Bytes right.now) };
 
@@ -219,7 +219,8 @@ struct StringsAgainst<'a, L, E> {
 }
 
 impl<'a, L: ByteRows, E: ByteComparison> TruthValues for StringsAgainst<'a, L, E> {
-    ghost values = { λ a. map (λ row. E.rows row (Bytes a.right.now)) (byte_slots (L.strings a.left.now)) };
+    ghost values = { λ a. map
+        (λ row. E.rows row (Bytes a.right.now)) (byte_slots (L.strings a.left.now)) };
 
     #[inline(always)]
     fn len(&self) -> usize {

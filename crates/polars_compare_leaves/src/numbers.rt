@@ -114,7 +114,8 @@ pub fn join_numbers<T: NativeType, E: RowComparison<T>>(
     join_nulls(alloc, relation, &pairs, left_mask, right_mask)
 }
 
-/// Compares each stored row with a number. The error is `Memory`.
+/// Returns a bit for each stored row, set where the comparison holds of it and the number. The
+/// error is `Memory`.
 pub fn compare_number<T: NativeType, E: RowComparison<T>>(
     alloc: Global,
     comparison: &E,

@@ -1,4 +1,4 @@
--- What is known of lists stays known behind the first of them.
+-- What is known of lists stays known after the first of them.
 use Rattle.std.proofs.Common.{◌≡◌, ◌+◌, ◌-◌, ◌/◌, ◌^◌, ◌≤◌, ℕ, eqb, ap, ◌∙◌, arith}
 use Rattle.polars_arrays_nested.specs.declared.list.ListArray.{ListArray}
 use Rattle.polars_arrays_words.specs.Bits.{is_bit}

@@ -111,7 +111,7 @@ leading word n m fits few is =
     })
     (cases_lt (word + 1) (2 ^ 64))
 
--- lists that match, and more behind them
+-- lists that match, and more after them
 pub match_append : (l r : ListArray) (a b m n : ℕ) → Match l a r b m → Match l (a + m) r (b + m) n → Match l a r b (m + n)
 match_append l r a b m n before after k low =
     ⊎_elim
@@ -126,7 +126,7 @@ match_append l r a b m n before after k low =
 pub leading_match : (l r : ListArray) (a b n word m : ℕ) → TellMatches l a r b n word → m ≤ n → ((i : ℕ) → i < m → is_bit word i ≡ true) → Match l a r b m
 leading_match l r a b n word m tell within ones k low = sym (tell k (omega (arith, within, low))) ∙ ones k low
 
--- behind others that match
+-- after others that match
 pub match_behind : (l r : ListArray) (a b done n word m : ℕ) → Match l a r b done → TellMatches l (a + done) r (b + done) n word → m ≤ n → ((i : ℕ) → i < m → is_bit word i ≡ true) → Match l a r b (done + m)
 match_behind l r a b done n word m before tell within ones =
     match_append l r a b done m before (leading_match l r (a + done) (b + done) n word m tell within ones)

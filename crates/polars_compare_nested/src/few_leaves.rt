@@ -53,9 +53,9 @@ pub(crate) fn are_few_leaves(_left: &AnyArray, _right: &AnyArray, leaves: bool, 
     leaves && n <= WORD_BITS
 }
 
-/// Compares two windows of at most 64 leaves without nulls, and returns which rows are the same as
-/// the bits of a word, the first one lowest. The count increases by one for each comparison of
-/// leaves. The error is `Memory`.
+/// Compares two windows of at most 64 leaves without nulls by the `LeafKernel` `steps`, and returns
+/// which rows are the same as the bits of a word, the first one lowest. The count increases by one
+/// for each comparison of leaves. The error is `Memory`.
 #[inline(always)]
 pub(crate) fn same_few<K: LeafKernel>(
     alloc: Global,

@@ -21,7 +21,10 @@ use polars_arrays_numbers::steps::Steps;
 use std::alloc::Global;
 
 /// Returns which rows of two arrays of one type and length are the same. Null is the same as null
-/// alone, and leaves are the same if the kernel says so.
+/// alone, and leaves are the same if `steps` says so.
+///
+/// Leaves go to the `LeafKernel` that the caller passes as `steps`. The counter `Steps` is itself
+/// one: its `leaf_eq` calls `leaf_windows` (`leaf_windows.rt`) and adds the rows.
 ///
 /// The count increases by exactly one for each leaf slot of the left array that is compared with
 /// one of the right: at most the leaf slots of either array, with a dictionary's entries counted
@@ -40,20 +43,24 @@ pub fn array_tot_eq_missing_kernel_counted<K: LeafKernel>(
     requires one_type { type_of left.now ≡ type_of right.now }
     requires one_length { len_of left.now ≡ len_of right.now }
     ensures told { MatchResult result (SameRows true K.agree left.now right.now) IsMemory }
-    ensures trees { IsEquality K.agree → MatchResult result (SameTrees true left.now right.now) IsMemory }
+    ensures trees { IsEquality K.agree
+        → MatchResult result (SameTrees true left.now right.now) IsMemory }
     ensures counted { IfOk result
         (λ _. K.count steps.new
         ≡ K.count steps.old + tally left.now right.now 0 0 (len_of left.now)) }
-    ensures within_left { tally left.now right.now 0 0 (len_of left.now) ≤ leaves left.now 0 (len_of left.now) }
-    ensures within_right { tally left.now right.now 0 0 (len_of left.now) ≤ leaves right.now 0 (len_of right.now) }
+    ensures within_left { tally left.now right.now 0 0 (len_of left.now) ≤ leaves left.now 0
+        (len_of left.now) }
+    ensures within_right { tally left.now right.now 0 0 (len_of left.now) ≤ leaves right.now 0
+        (len_of right.now) }
     ensures kept { K.count steps.old ≤ K.count steps.new }
 {
+    // For the proof: does nothing at run time.
     law_tally();
     equal_windows(alloc, left, 0, right, 0, left.len(), steps)
 }
 
 /// Returns which rows of two arrays of one type and length are not the same: the negated result of
-/// `array_tot_eq_missing_kernel_counted`, after the same comparisons.
+/// `array_tot_eq_missing_kernel_counted`, after the same comparisons by the `LeafKernel` `steps`.
 #[tactic(auto, using(crate::proofs::Headline::bounds))]
 pub fn array_tot_ne_missing_kernel_counted<K: LeafKernel>(
     alloc: Global,
@@ -66,21 +73,25 @@ pub fn array_tot_ne_missing_kernel_counted<K: LeafKernel>(
     requires one_type { type_of left.now ≡ type_of right.now }
     requires one_length { len_of left.now ≡ len_of right.now }
     ensures told { MatchResult result (SameRows false K.agree left.now right.now) IsMemory }
-    ensures trees { IsEquality K.agree → MatchResult result (SameTrees false left.now right.now) IsMemory }
+    ensures trees { IsEquality K.agree
+        → MatchResult result (SameTrees false left.now right.now) IsMemory }
     ensures counted { IfOk result
         (λ _. K.count steps.new
         ≡ K.count steps.old + tally left.now right.now 0 0 (len_of left.now)) }
-    ensures within_left { tally left.now right.now 0 0 (len_of left.now) ≤ leaves left.now 0 (len_of left.now) }
-    ensures within_right { tally left.now right.now 0 0 (len_of left.now) ≤ leaves right.now 0 (len_of right.now) }
+    ensures within_left { tally left.now right.now 0 0 (len_of left.now) ≤ leaves left.now 0
+        (len_of left.now) }
+    ensures within_right { tally left.now right.now 0 0 (len_of left.now) ≤ leaves right.now 0
+        (len_of right.now) }
     ensures kept { K.count steps.old ≤ K.count steps.new }
 {
+    // For the proof: does nothing at run time.
     law_tally();
     let same = equal_windows(alloc, left, 0, right, 0, left.len(), steps)?;
     same.not(alloc)
 }
 
 /// Returns which rows of two arrays of one type and length are the same tree; null is the same as
-/// null alone. The error is `Memory`.
+/// null alone. `steps` compares the leaves and counts these comparisons. The error is `Memory`.
 ///
 /// On `Ok` the count has increased by exactly one for each leaf slot of the left array that is
 /// compared with one of the right: at most the leaf slots of either array, with a dictionary's
@@ -99,8 +110,10 @@ pub fn array_tot_eq_missing_kernel_with_steps(
     ensures trees { MatchResult result (SameTrees true left.now right.now) IsMemory }
     ensures counted { IfOk result
         (λ _. steps.new ≡ steps.old + tally left.now right.now 0 0 (len_of left.now)) }
-    ensures within_left { tally left.now right.now 0 0 (len_of left.now) ≤ leaves left.now 0 (len_of left.now) }
-    ensures within_right { tally left.now right.now 0 0 (len_of left.now) ≤ leaves right.now 0 (len_of right.now) }
+    ensures within_left { tally left.now right.now 0 0 (len_of left.now) ≤ leaves left.now 0
+        (len_of left.now) }
+    ensures within_right { tally left.now right.now 0 0 (len_of left.now) ≤ leaves right.now 0
+        (len_of right.now) }
     ensures kept { steps.old ≤ steps.new }
 {
     array_tot_eq_missing_kernel_counted(alloc, left, right, steps)

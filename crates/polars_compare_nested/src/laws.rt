@@ -12,14 +12,14 @@ ghost use Rattle.polars_compare_nested.specs.TallyLaws.{TallyOfClone, TallyOfCut
 
 use polars_arrays_nested::laws::law_leaves;
 
-/// States the laws of the cost of comparing two windows, and of its bounds.
+/// States laws of the tally: the number of comparisons of leaves that two windows cost.
 ///
-/// The comparisons are at most the leaf slots of the left window. Comparisons and leaf slots of
-/// adjacent windows add up. The comparisons are the same with the sides exchanged, so the leaf
-/// slots of the right window bound them too. The items of a list end where those of the next one
-/// begin, so a window of lists has the leaf slots of one window of items, and adjacent lists that
-/// match cost what that window costs. A struct counts each of its columns once. Slices and clones
-/// cost what the same rows of the original did.
+/// The tally is at most the leaf slots of the left window. Tallies and leaf slots of adjacent
+/// windows add up. The tally is the same with the sides exchanged, so the leaf slots of the right
+/// window bound it too. The items of a list end where those of the next one begin, so a window of
+/// lists has the leaf slots of one window of items, and adjacent lists that match have the tally of
+/// that window. A struct counts each of its columns once. Slices and clones have the tally of the
+/// same rows of the original.
 pub fn law_tally()
     ensures within { TallyIsWithinLeaves }
     ensures adds_up { TallyAddsUp }

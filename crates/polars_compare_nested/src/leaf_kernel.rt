@@ -22,7 +22,8 @@ use polars_arrays_numbers::steps::Steps;
 use std::alloc::Global;
 
 /// A comparison of stored leaves (numbers, truth values, byte strings and texts) that counts. The
-/// comparison of nested arrays reads leaves through this trait alone.
+/// comparison of nested arrays reads leaves through this trait alone. The counter `Steps` is one:
+/// its parameter is named `steps` for that, also where it may be another kernel.
 pub trait LeafKernel {
     // Agreement of two leaf rows.
     ghost agree: { Row → Row → Bool };
@@ -30,10 +31,10 @@ pub trait LeafKernel {
     // Number of comparisons counted.
     ghost count: { Self → ℕ };
 
-    /// Returns whether the leaves of two windows agree, place by place: `n` rows from row `a` on of
-    /// the left array and from row `b` on of the right one. If a row is masked on either side, the
-    /// bit is arbitrary. The count increases by `n`, one a row. The error is `Memory`; the count
-    /// may then have increased.
+    /// Returns which leaves of two windows agree: bit `i` says whether row `a + i` of the left
+    /// array and row `b + i` of the right one agree, for the `n` rows from `a` and `b` on. If a row
+    /// is masked on either side, the bit is arbitrary. The count increases by `n`, one a row. The
+    /// error is `Memory`; the count may then have increased.
     fn leaf_eq(
         &mut self,
         alloc: Global,

@@ -40,14 +40,16 @@ macro_rules! compare_leaves {
     (($alloc:expr, $left:expr, $a:expr, $right:expr, $b:expr, $n:expr),
         $($windows:ident: $($kind:ident)+);+) => {
         match $left {
-            $($(AnyArray::$kind(left) => $windows($alloc, left, $a, downcast!($right, $kind), $b, $n),)+)+
+            $($(AnyArray::$kind(left) =>
+                $windows($alloc, left, $a, downcast!($right, $kind), $b, $n),)+)+
             _ => unreachable!(),
         }
     };
 }
 
-/// Returns whether the leaves of two windows are equal, place by place: `n` rows from row `a` on of
-/// the left array and from row `b` on of the right one. The error is `Memory`.
+/// Returns which leaves of two windows are equal: bit `i` says whether row `a + i` of the left
+/// array is equal to row `b + i` of the right one, for the `n` rows from `a` and `b` on. The bit is
+/// arbitrary where one of the rows is masked. The error is `Memory`.
 #[tactic(auto, using(crate::proofs::Strings::counts, crate::proofs::Cases::cases))]
 #[inline]
 pub(crate) fn leaf_windows(

@@ -23,8 +23,8 @@ use polars_arrays_numbers::native_type::NativeType;
 use polars_compare_leaves::numbers::compare_few_numbers;
 use std::alloc::Global;
 
-// Compares windows of two arrays of one kind of leaf. The kinds that are listed are compared by the
-// function `$word`, which returns a word of bits, and all others by a bitmap.
+// Matches on the kind of both arrays, and returns the word of `leaf_word`: for the kinds that are
+// listed from the function `$word`, for all others from a bitmap.
 macro_rules! compare_few_leaves {
     (($alloc:expr, $left:expr, $a:expr, $right:expr, $b:expr, $n:expr), $word:ident:
         $($kind:ident)+) => {
@@ -35,9 +35,9 @@ macro_rules! compare_few_leaves {
     };
 }
 
-/// Compares up to 64 leaves, from row `a` of the left array and from row `b` of the right one.
-/// Bit i of the word is set if the i-th leaves are equal. If one of them is masked, the bit is
-/// arbitrary. The error is `Memory`; numbers need no memory.
+/// Returns a word whose bit i says whether row `a + i` of the left array is equal to row `b + i` of
+/// the right one, for i below `n`, which is at most 64. A bit is arbitrary where one of the rows is
+/// masked. The error is `Memory`; numbers need no memory.
 #[tactic(auto, using(crate::proofs::Strings::counts, crate::proofs::Cases::cases))]
 #[inline]
 pub(crate) fn leaf_word(
@@ -61,7 +61,7 @@ pub(crate) fn leaf_word(
     )
 }
 
-// Compares windows of leaves of any kind, with a bitmap.
+// Returns the word of `leaf_word` for any kind of leaf, read from a bitmap.
 fn word_of_windows(
     alloc: Global,
     left: &AnyArray,
@@ -81,7 +81,7 @@ fn word_of_windows(
     Ok(BitMask::from_bitmap(&bits).few_bits(0, n))
 }
 
-// Compares windows of numbers.
+// Returns the word of `leaf_word` for numbers.
 #[inline(always)]
 fn number_word<T: NativeType>(
     left: &PrimitiveArray<T>,

@@ -108,7 +108,7 @@ pub(crate) struct Matches {
 }
 
 impl Matches {
-    /// Creates matches that know no list.
+    /// Creates matches of no lists: none is known yet.
     pub(crate) fn none() -> Matches
         ensures { result.len ≡ 0 }
     {
@@ -261,7 +261,7 @@ pub(crate) fn push_rows(
 }
 
 /// Appends a bit for each of `rows` lists from row `a` on: whether all bits of its items are set.
-/// The lists have at most 64 items, whose bits are those of `word`, the first one lowest.
+/// The lists have at most 64 items together. `word` has their bits, that of the first item lowest.
 pub(crate) fn push_word(
     bits: &mut BitmapBuilder,
     word: u64,

@@ -30,7 +30,8 @@ pub fn compare_sized_windows<E: ByteComparison>(
     n: usize,
 ) -> Result<Bitmap, ComputeError>
     requires left_in { a + n ≤ length (sized_strings left.now.size left.now.count left.now.values) }
-    requires right_in { b + n ≤ length (sized_strings right.now.size right.now.count right.now.values) }
+    requires right_in { b + n ≤ length
+        (sized_strings right.now.size right.now.count right.now.values) }
     ensures { MatchResult result (λ bits. bits ≡ zip2 E.rows
         (window a n (byte_slots (sized_strings left.now.size left.now.count left.now.values)))
         (window b n (byte_slots (sized_strings right.now.size right.now.count right.now.values))))

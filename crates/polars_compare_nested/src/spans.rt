@@ -67,8 +67,8 @@ struct SameCounts<'m, L: Offset, R: Offset> {
 }
 
 impl<L: Offset, R: Offset> TruthValues for SameCounts<'_, L, R> {
-    ghost values = { λ l. same_counts (places L.value l.left.now) l.a (places R.value l.right.now) l.b
-        l.rows };
+    ghost values = { λ l. same_counts (places L.value l.left.now) l.a (places R.value l.right.now)
+        l.b l.rows };
 
     #[inline(always)]
     fn len(&self) -> usize {
@@ -155,7 +155,8 @@ pub(crate) fn matching_word<L: Offset, R: Offset>(
     requires left_good { IsGood (List left.now) }
     requires right_good { IsGood (List right.now) }
     requires left_offsets { places L.value left_offsets.now ≡ list_places (list_offsets left.now) }
-    requires right_offsets { places R.value right_offsets.now ≡ list_places (list_offsets right.now) }
+    requires right_offsets { places R.value right_offsets.now
+        ≡ list_places (list_offsets right.now) }
     requires left_in { a + n ≤ len_of (List left.now) }
     requires right_in { b + n ≤ len_of (List right.now) }
     requires few { n ≤ 64 }
@@ -208,7 +209,8 @@ pub(crate) fn matching_rows<L: Offset, R: Offset>(
     requires left_good { IsGood (List left.now) }
     requires right_good { IsGood (List right.now) }
     requires left_offsets { places L.value left_offsets.now ≡ list_places (list_offsets left.now) }
-    requires right_offsets { places R.value right_offsets.now ≡ list_places (list_offsets right.now) }
+    requires right_offsets { places R.value right_offsets.now
+        ≡ list_places (list_offsets right.now) }
     requires left_in { a + n ≤ len_of (List left.now) }
     requires right_in { b + n ≤ len_of (List right.now) }
     ensures within { result ≤ n }
@@ -267,7 +269,7 @@ impl<O: Offset> TruthValues for ListBits<'_, '_, O> {
         self.items.all_set(place.saturating_sub(self.first), count)
     }
 
-    // Packs bit by bit, since each value is computed from two offsets and the bits between them,
+    // Packs in registers, since each value is computed from two offsets and the bits between them,
     // more than 64 bits in all.
     #[inline(always)]
     fn packs_by_bit(&self) -> bool {
@@ -376,8 +378,8 @@ struct WordLists<'m, O: Offset> {
 }
 
 impl<O: Offset> TruthValues for WordLists<'_, O> {
-    ghost values = { λ l. all_lists (first_of (is_bit l.word) 64) (places O.value l.offsets.now) l.first l.a
-        l.rows };
+    ghost values = { λ l. all_lists (first_of (is_bit l.word) 64) (places O.value l.offsets.now)
+        l.first l.a l.rows };
 
     #[inline(always)]
     fn len(&self) -> usize {
@@ -390,7 +392,7 @@ impl<O: Offset> TruthValues for WordLists<'_, O> {
         word_set(self.word, place.saturating_sub(self.first), count)
     }
 
-    // Packs bit by bit, since each value is computed by a shift of the word, which has no vector
+    // Packs in registers, since each value is computed by a shift of the word, which has no vector
     // form.
     #[inline(always)]
     fn packs_by_bit(&self) -> bool {

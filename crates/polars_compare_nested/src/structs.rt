@@ -28,8 +28,10 @@ pub(crate) fn column_pair<'a>(
     ensures one_type { type_of result.0.now ≡ type_of result.1.now }
     ensures left_len { len_of result.0.now ≡ len_of (Struct left.now) }
     ensures right_len { len_of result.1.now ≡ len_of (Struct right.now) }
-    ensures left_is { (other : AnyArray) → slice_index_or (columns left.now) i other ≡ result.0.now }
-    ensures right_is { (other : AnyArray) → slice_index_or (columns right.now) i other ≡ result.1.now }
+    ensures left_is { (other : AnyArray) → slice_index_or (columns left.now) i other
+        ≡ result.0.now }
+    ensures right_is { (other : AnyArray) → slice_index_or (columns right.now) i other
+        ≡ result.1.now }
     ensures as_many { length (columns left.now) ≡ length (columns right.now) }
     ensures smaller { size-AnyArray result.0.now < size-StructArray left.now }
 {

@@ -4,8 +4,10 @@
 //! Nested arrays are compared by windows of the arrays that they hold, and no array is copied. A
 //! struct is compared by one window of each column; lists of one width by one window of all their
 //! items; lists between offsets by one window for each run of lists that match, whose items are
-//! adjacent on both sides; a dictionary by one pair of entries for each row. Leaves are compared by
-//! a `LeafKernel` alone.
+//! adjacent on both sides; a dictionary by one pair of entries for each row.
+//!
+//! Leaves go to the `LeafKernel` that the caller passes as `steps`. The counter `Steps` is itself
+//! one: its `leaf_eq` calls `leaf_windows` (`leaf_windows.rt`) and adds the rows.
 
 ghost use Rattle.std.specs.Prelude.{◌≡◌, ◌+◌, ◌-◌, ◌<◌, ◌≤◌, IsTrue, length, IfOk, MatchResult};
 ghost use Rattle.polars_arrays_bits.specs.Errors.{IsMemory};
@@ -40,7 +42,8 @@ use polars_arrays_nested::list::ListArray;
 use polars_arrays_nested::struct_array::StructArray;
 use std::alloc::Global;
 
-/// Returns which rows of two windows are the same; null is the same as null alone. The count
+/// Returns which rows of two windows are the same; null is the same as null alone. Leaves go to the
+/// `LeafKernel` that the caller passes as `steps` (a `Steps` compares them and counts). Its count
 /// increases by one for each comparison of leaves. The error is `Memory`; the count may then have
 /// increased.
 #[cycle(equal)]
@@ -149,7 +152,8 @@ fn push_next<K: LeafKernel>(
     requires windows { AreWindows (List left.now) a (List right.now) b n }
     requires some { 1 ≤ n }
     requires room { n ≤ bits.old.room }
-    requires leaves { IsTrue leaves → AreLeavesWithoutNulls (list_values left.now) (list_values right.now) }
+    requires leaves { IsTrue leaves
+        → AreLeavesWithoutNulls (list_values left.now) (list_values right.now) }
     requires known { AreKnown left.now a right.now b n matches.old }
     ensures some { MatchResult result (λ rows. 1 ≤ rows) IsMemory }
     ensures within { IfOk result (λ rows. rows ≤ n) }

@@ -11,11 +11,11 @@ use polars_arrays_bits::error::ComputeError;
 use polars_arrays_flat::array::Array;
 use std::alloc::Global;
 
-/// Order of the rows of two arrays of one kind: numbers as whole numbers, byte strings byte by
-/// byte, texts by their UTF-8, false before true.
+/// Comparisons by order of the rows of two arrays of one kind: numbers as whole numbers, byte
+/// strings byte by byte, texts by their UTF-8, false before true.
 ///
-/// Validities are ignored; the bits are right where both rows are present. A broadcast compares
-/// each row with one scalar. The error is `Memory`.
+/// Each call returns a bit for each row. Validities are ignored: a bit is arbitrary where one of
+/// the two rows is null. A broadcast compares each row with one scalar. The error is `Memory`.
 pub trait TotalOrdKernel: Sized + Array {
     /// The value that a broadcast compares rows with.
     type Scalar;

@@ -71,7 +71,7 @@ pub trait ViewComparison {
         false
     }
 
-    /// Compares row `i`, masked or not, with a byte string.
+    /// Returns whether the comparison holds of row `i`, masked or not, and a byte string.
     fn compare_bytes(&self, left: &BinaryViewArray, i: usize, right: &ScalarRow) -> bool
         requires { i < length left.now.views }
         ensures { result

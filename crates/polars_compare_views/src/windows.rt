@@ -68,7 +68,8 @@ impl<'a, E: ViewComparison> CountedValues for ViewPairs<'a, E> {
     ghost values = { λ p. first_of
         (compared_pair E.rows (view_strings p.left.now) (view_strings p.right.now) p.a p.b) p.n };
 
-    ghost costs = { λ p. pair_cost E.follows (view_strings p.left.now) (view_strings p.right.now) p.a p.b };
+    ghost costs = { λ p. pair_cost E.follows (view_strings p.left.now) (view_strings p.right.now)
+        p.a p.b };
 
     ghost sure = { λ p i. E.sure (slice_index_or p.left_views.now (p.a + i) [])
         (slice_index_or p.right_views.now (p.b + i) []) };
@@ -145,7 +146,8 @@ struct ViewsAgainst<'a, E> {
 }
 
 impl<'a, E: ViewComparison> TruthValues for ViewsAgainst<'a, E> {
-    ghost values = { λ a. map (λ row. E.rows row (Bytes a.right)) (byte_slots (view_strings a.left.now)) };
+    ghost values = { λ a. map
+        (λ row. E.rows row (Bytes a.right)) (byte_slots (view_strings a.left.now)) };
 
     #[inline(always)]
     fn len(&self) -> usize {
@@ -163,7 +165,8 @@ impl<'a, E: ViewComparison> TruthValues for ViewsAgainst<'a, E> {
     }
 }
 
-/// Compares each stored row with a byte string. The error is `Memory`.
+/// Returns a bit for each stored row, set where the comparison holds of it and the byte string. The
+/// error is `Memory`.
 pub fn compare_view_bytes<E: ViewComparison>(
     alloc: Global,
     comparison: &E,

@@ -79,17 +79,17 @@ pub trait BitwiseKernel {
         ensures { option_map (λ x. row_bits width (scalar_row x)) result
             ≡ reduced is_odd width (rows self.now) };
 
-    /// Returns what `reduce_and` does for two present rows.
+    /// Returns the AND of two rows' bits.
     fn bit_and(lhs: Self::Scalar, rhs: Self::Scalar) -> Self::Scalar
         ensures { Some (row_bits width (scalar_row result))
             ≡ reduced (list_all (λ b. b)) width (scalar_row lhs ∷ scalar_row rhs ∷ []) };
 
-    /// Returns what `reduce_or` does for two present rows.
+    /// Returns the OR of two rows' bits.
     fn bit_or(lhs: Self::Scalar, rhs: Self::Scalar) -> Self::Scalar
         ensures { Some (row_bits width (scalar_row result))
             ≡ reduced (list_any (λ b. b)) width (scalar_row lhs ∷ scalar_row rhs ∷ []) };
 
-    /// Returns what `reduce_xor` does for two present rows.
+    /// Returns the XOR of two rows' bits.
     fn bit_xor(lhs: Self::Scalar, rhs: Self::Scalar) -> Self::Scalar
         ensures { Some (row_bits width (scalar_row result))
             ≡ reduced is_odd width (scalar_row lhs ∷ scalar_row rhs ∷ []) };

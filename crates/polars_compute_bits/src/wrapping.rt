@@ -20,7 +20,8 @@ pub trait WrappingNumber: FixedWidth + Bounded {
 /// States a law of wrapping: a wrapped whole number is the only number of the type that is
 /// congruent to it modulo 2 to the width.
 pub fn law_wrapped<T: WrappingNumber>()
-    ensures congruent { (n : ℤ) → IsWrapped T.low T.high (bit_len T.width) n (wrapped T.low (bit_len T.width) n) }
+    ensures congruent { (n : ℤ)
+        → IsWrapped T.low T.high (bit_len T.width) n (wrapped T.low (bit_len T.width) n) }
     ensures only { (n x : ℤ) → IsWrapped T.low T.high (bit_len T.width) n x → x
         ≡ wrapped T.low (bit_len T.width) n }
 {}

@@ -97,7 +97,7 @@ full-reads = refl
 null-reads : rows_read (appended (Int (pos 0) ∷ []) (new_state (numbers_from (pos 0) 1))) (Int (pos 0) ∷ Null ∷ []) ≡ 2
 null-reads = refl
 
--- slots: values from -1 on, and null behind three of them
+-- slots: values from -1 on, and null after three of them
 place-of-one : place (negsuc 0) (pos 1) ≡ 2
 place-of-one = refl
 

@@ -78,7 +78,7 @@ module _ (least : ℤ) (slots : List Bool) where
       rw next (subst (λ (vs : List ℤ). Contains vs (least +ℤ pos i)) (sym (members-more (i + 1 + k)))
       (Contains-append_left (members (i + 1 + k)) (cond (get_or slots (i + 1 + k) false) ((least +ℤ pos (i + 1 + k)) ∷ []) []) (least +ℤ pos i) (contains-value i k e)))
 
-  -- members behind slot i are no less than its value
+  -- members after slot i are no less than its value
   pub least-value : (bound : ℤ) (i k : ℕ) → All (λ v. v <ℤ bound) (members i) → All (λ v. v <ℤ (least +ℤ pos i) → v <ℤ bound) (members (i + k))
   least-value bound i zero all =
       let here : i + 0 ≡ i = omega arith in

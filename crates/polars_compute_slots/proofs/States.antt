@@ -33,7 +33,7 @@ and-second false b e = cc
 abbrev made : List (ℤ × Bool) → Bool → State
 made values has_null = record { values = values; has_null = has_null }
 
--- ---- no rows, and rows behind rows
+-- ---- no rows, and rows after rows
 
 values-none : (vs : List (ℤ × Bool)) → map (λ v. (v.0, v.1 || false)) vs ≡ vs
 values-none [] = refl

@@ -90,7 +90,7 @@ pub fn last_masked(alloc: Global, n: usize) -> Result<Bitmap, ComputeError>
     Ok(bits.freeze())
 }
 
-// Creates an array of numbers and a last row that is null, stored as 0.
+// Returns an array of these numbers and of one more row, which is null and stored as 0.
 pub(crate) fn with_null<T: UniqueNumber>(
     alloc: Global,
     numbers: Vec<T>,
@@ -106,8 +106,8 @@ pub(crate) fn with_null<T: UniqueNumber>(
     Ok(PrimitiveArray::from_vec(numbers).with_validity(Some(validity)))
 }
 
-/// Lists the numbers whose slots are set, in ascending order, and then a null if the slot of null
-/// is set. The error is `Memory`.
+/// Returns an array of the numbers whose slots are set, in ascending order, with a null last if the
+/// slot of null is set. The error is `Memory`.
 pub fn list_set<T: UniqueNumber, S: Slots>(
     alloc: Global,
     slots: &S,

@@ -64,7 +64,8 @@ impl ReadCounts {
 // Returns the counts of slots if no value means null.
 fn whole_counts<S: Slots>(slots: &S, count: usize) -> ReadCounts
     requires { length (S.set_slots slots.now) ≡ count + 1 }
-    ensures counted { (least : ℤ) → IsCounted (slot_state least count (S.set_slots slots.now)) result }
+    ensures counted { (least : ℤ)
+        → IsCounted (slot_state least count (S.set_slots slots.now)) result }
     ensures few { result.seen ≤ count }
 {
     ReadCounts {
@@ -104,7 +105,7 @@ pub fn read_counts<T: UniqueNumber, S: Slots, N: NullValues>(
     counts
 }
 
-// Lists the values that were seen and do not mean null, ascending, with room for one more.
+// Returns the values that were seen and do not mean null, ascending, with room for one more.
 fn list_values<T: UniqueNumber, S: Slots, N: NullValues>(
     alloc: Global,
     slots: &S,
@@ -135,8 +136,8 @@ fn list_values<T: UniqueNumber, S: Slots, N: NullValues>(
     Ok(numbers)
 }
 
-/// Lists the values that were seen and do not mean null, ascending, and a null if one was seen or a
-/// value that means null was. The error is `Memory`.
+/// Returns an array of the values that were seen, ascending, without those that mean null. A null
+/// comes last if a null was seen, or a value that means null. The error is `Memory`.
 pub fn list_read<T: UniqueNumber, S: Slots, N: NullValues>(
     alloc: Global,
     slots: &S,

@@ -1,4 +1,5 @@
-//! Ranges of numbers: a state of distinct numbers has a slot for each number of its range.
+//! Ranges of numbers. A state of distinct values has a slot for each number of its range, and a
+//! last one for null.
 
 ghost use Rattle.std.specs.Prelude.{◌≡◌, ◌<◌, ◌^◌, ◌+ℤ◌, ◌-ℤ◌, ◌≤ℤ◌, ◌<ℤ◌, ◌↔◌, pos, unsigned_abs};
 ghost use Rattle.std.specs.Prelude.{IsTrue};
@@ -19,7 +20,7 @@ pub struct Span<T: UniqueNumber> {
     pub count: usize,
 }
 
-// Returns the distance of a number from a lesser or equal one.
+// Returns `number - least`, for a `number` that is at least `least`.
 #[inline(always)]
 fn distance<T: UniqueNumber>(least: T, number: T) -> usize
     requires order { T.value least ≤ℤ T.value number }
@@ -56,7 +57,7 @@ impl<T: UniqueNumber> Span<T> {
         }
     }
 
-    /// Creates an empty range.
+    /// Creates a range without numbers. Its one slot is that of null.
     pub fn empty() -> Span<T>
         ensures none { result.count ≡ 0 }
         ensures numbers { AreNumbers T.low T.high (T.value result.least) 0 }
@@ -67,7 +68,7 @@ impl<T: UniqueNumber> Span<T> {
         Span { least, count: 0 }
     }
 
-    /// Returns the slot of a number.
+    /// Returns the slot of a number of the range: its distance from the least one.
     #[inline(always)]
     pub fn slot(&self, number: T) -> usize
         requires { HasSlot (T.value self.now.least) self.now.count (Int (T.value number)) }
@@ -78,7 +79,7 @@ impl<T: UniqueNumber> Span<T> {
         distance(self.least, number)
     }
 
-    /// Returns the number that a slot stands for.
+    /// Returns the number whose slot this is: `least + slot`.
     #[inline(always)]
     pub fn number(&self, slot: usize) -> T
         requires numbers { AreNumbers T.low T.high (T.value self.now.least) self.now.count }
@@ -110,8 +111,8 @@ impl<T: UniqueNumber> Span<T> {
         self.count == other.count && (self.count == 0 || Equal.compare(self.least, other.least))
     }
 
-    /// Returns the slot of a row: of the number if it is present, and of null otherwise. It is
-    /// compiled without a branch.
+    /// Returns the slot of a row: that of `number` if the row is present, and that of null
+    /// otherwise. It is compiled without a branch.
     #[inline(always)]
     pub fn row_slot(&self, present: bool, number: T) -> usize
         requires { HasSlot (T.value self.now.least) self.now.count

@@ -11,7 +11,9 @@ use Rattle.num_traits.specs.contracts.impls.u32.U32Zero.TheImpl.{ghosts as zero}
 use Rattle.polars_compute_slots.specs.State.{State}
 use Rattle.polars_compute_unique.specs.KeyState.{KeyState}
 use Rattle.polars_compute_unique.specs.contracts.dictionary.DictionaryRangedUniqueState.{the_row}
-use Rattle.polars_compute_unique.specs.contracts.primitive.PrimitiveRangedUniqueState.{the_row as keys_row}
+use Rattle.polars_compute_unique.specs.contracts.primitive.PrimitiveRangedUniqueState.{
+  the_row as keys_row,
+}
 
 -- the state of the keys is the one last written through r
 abbrev pub lends_keys : MutBor KeyState → MutBor State → Fml

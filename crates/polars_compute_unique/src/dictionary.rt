@@ -63,7 +63,8 @@ pub fn keys_fit(values: &AnyArray) -> bool
 // only for more than 127 keys.
 fn new_keys(alloc: Global, n: usize) -> Result<PrimitiveRangedUniqueState<u32>, ComputeError>
     requires { n ≤ 2 ^ 32 }
-    ensures state { MatchResult result (λ state. state ≡ new_state (numbers_from (pos 0) n)) IsMemory }
+    ensures state { MatchResult result
+        (λ state. state ≡ new_state (numbers_from (pos 0) n)) IsMemory }
     ensures few { n ≤ 127 → IsOk result }
 {
     match n {
@@ -124,7 +125,8 @@ fn boxed<T: Drop>(alloc: Global, value: T) -> Result<Box<T>, ComputeError>
     Ok(boxed)
 }
 
-// Creates the array of keys over entries. Each key must name an entry; the result is good.
+// Returns the dictionary array with these keys and entries, which is good. Each key must name an
+// entry.
 fn array_of(keys: PrimitiveArray<u32>, entries: Box<AnyArray>) -> DictionaryArray
     requires good { IsGood entries.value }
     requires named { AreKeys (len_of entries.value) (DictKeys.UInt32 keys) }
@@ -138,7 +140,7 @@ fn array_of(keys: PrimitiveArray<u32>, entries: Box<AnyArray>) -> DictionaryArra
     array
 }
 
-// Creates the array of keys over entries, which it puts in a box. The error is `Memory`.
+// Returns the dictionary array with these keys and entries. The error is `Memory`.
 fn keyed_array(
     alloc: Global,
     keys: PrimitiveArray<u32>,

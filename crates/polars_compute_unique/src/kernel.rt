@@ -126,10 +126,10 @@ pub trait GenericUniqueKernel: Sized {
 /// The distinct rows of arrays in which equal rows are adjacent, as in sorted ones. This trait has
 /// no implementation.
 pub trait SortedUniqueKernel: Sized + Array {
-    /// Returns each distinct row once, in the order of their first places. The rows of `fst` and
-    /// then those of `others` are taken as one list. A null is a row. The error is `Memory`.
+    /// Returns the distinct rows of `fst` and of all `others`, read one after another, each once
+    /// and in the order of their first places. Null counts as a row. The error is `Memory`.
     ///
-    /// The array is of the type of `fst`, which `others` must have too.
+    /// The result has the type of `fst`, which `others` must have too.
     fn unique_fold(alloc: Global, fst: &Self, others: &[&Self]) -> Result<Self, ComputeError>
         requires good { Self.good fst.now }
         requires all_good { All (λ array. Self.good array.now) others.now }
@@ -145,10 +145,8 @@ pub trait SortedUniqueKernel: Sized + Array {
         ensures good { IfOk result (λ unique. Self.good unique) }
         ensures one_type { IfOk result (λ unique. Self.same_type fst.now unique) };
 
-    /// Returns each distinct row once, in the order of their first places. A null is a row. The
-    /// error is `Memory`.
-    ///
-    /// The array is of the same type.
+    /// Returns the distinct rows in an array of the same type, each once and in the order of their
+    /// first places. Null counts as a row. The error is `Memory`.
     fn unique(&self, alloc: Global) -> Result<Self, ComputeError>
         requires good { Self.good self.now }
         requires adjacent { AreAdjacent (rows_under (Self.mask self.now) (Self.slots self.now)) }

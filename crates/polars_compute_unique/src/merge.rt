@@ -9,8 +9,8 @@ use crate::kernel::RangedUniqueKernel;
 /// Appends all arrays, in order. Does not allocate.
 pub fn append_all<S: RangedUniqueKernel>(state: &mut S, arrays: &[S::Array])
     requires taken { All (λ array. IsTrue (S.is_taken array)) arrays.now }
-    requires within { All (λ array. IsTrue (are_within (range_of (S.state state.old)) (S.fed array)))
-        arrays.now }
+    requires within { All
+        (λ array. IsTrue (are_within (range_of (S.state state.old)) (S.fed array))) arrays.now }
     ensures state { S.state state.new ≡ appended_all (map S.fed arrays.now) (S.state state.old) }
     ensures dictionary { S.dictionary state.new ≡ S.dictionary state.old }
 {

@@ -150,8 +150,8 @@ impl<T: UniqueNumber> PrimitiveRangedUniqueState<T> {
         }
     }
 
-    // Lists the numbers seen, ascending, and a null last, if one was seen, in the reading in which
-    // some values mean null. The error is `Memory`.
+    // Returns an array of the numbers seen, ascending, without those that mean null by `nulls`. A
+    // null comes last if a null was seen, or a number that means null. The error is `Memory`.
     pub(crate) fn list_read<N: NullValues>(
         &self,
         alloc: Global,

@@ -2,7 +2,9 @@
 
 ghost use Rattle.std.specs.String.{string_bytes};
 ghost use Rattle.polars_tables_lines.specs.Line.{line_meaning, rows_meaning, typed_meaning};
-ghost use Rattle.polars_tables_operations.specs.declared.operation.Operation.TheVariants.{DistinctTruths};
+ghost use Rattle.polars_tables_operations.specs.declared.operation.Operation.TheVariants.{
+  DistinctTruths,
+};
 ghost use Rattle.polars_tables_operations.specs.declared.operation.Operation.TheVariants.{General};
 ghost use Rattle.polars_tables_operations.specs.declared.operation.Operation.TheVariants.{Numeric};
 ghost use Rattle.polars_tables_rows.specs.declared.row_type.RowType.TheVariants.{Boolean};

@@ -90,7 +90,8 @@ fn read_once<R: Read>(
 
 /// Reads all bytes of a reader, up to its end.
 fn read_input<R: Read>(alloc: Global, reader: &mut R) -> Result<Vec<u8>, RunError>
-    ensures bytes { IfOk result (λ input. IfSome (R.remaining reader.old) (λ bytes. input.items ≡ bytes)) }
+    ensures bytes { IfOk result
+        (λ input. IfSome (R.remaining reader.old) (λ bytes. input.items ≡ bytes)) }
     ensures fault { IfErr result (λ e. (e ≡ RunError.Read) ⊎ (e ≡ RunError.Memory)) }
 {
     let mut input = Vec::new(alloc);
@@ -227,7 +228,8 @@ fn answer_lines(alloc: Global, input: &[u8]) -> Result<Answers, RunError>
 
 /// Writes a text to its end.
 pub(crate) fn write_text<W: Write>(writer: &mut W, text: &str) -> Result<(), RunError>
-    ensures written { OnOk result (Appends (W.contents writer.old) (W.contents writer.new) text.now) }
+    ensures written { OnOk result
+        (Appends (W.contents writer.old) (W.contents writer.new) text.now) }
     ensures fault { IfErr result (λ e. e ≡ RunError.Write) }
 {
     if writer.write_all(text.as_bytes()).is_err() {
@@ -250,7 +252,8 @@ pub fn run<R: Read, W: Write>(
     // Writes exactly the results of the bytes that the reader had.
     ensures written { OnOk result (IfSome (R.remaining reader.old) (λ input.
         Appends (W.contents writer.old) (W.contents writer.new) (output_of input))) }
-    ensures reported { IfOk result (λ report. IfSome (R.remaining reader.old) (λ input. Reports input report)) }
+    ensures reported { IfOk result
+        (λ report. IfSome (R.remaining reader.old) (λ input. Reports input report)) }
 
     // Writes nothing on an error, except if a write failed.
     ensures unwritten { IfErr result (λ e. (e ≡ RunError.Write)

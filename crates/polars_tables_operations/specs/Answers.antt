@@ -14,16 +14,26 @@ use Rattle.polars_tables_operations.specs.declared.operation.Comparison.{Compari
 use Rattle.polars_tables_operations.specs.declared.operation.Distinct.{Distinct}
 use Rattle.polars_tables_operations.specs.declared.operation.GeneralOperation.{GeneralOperation}
 use Rattle.polars_tables_operations.specs.declared.operation.GeneralOperation.TheVariants.{Compare}
-use Rattle.polars_tables_operations.specs.declared.operation.GeneralOperation.TheVariants.{CountBits}
+use Rattle.polars_tables_operations.specs.declared.operation.GeneralOperation.TheVariants.{
+  CountBits,
+}
 use Rattle.polars_tables_operations.specs.declared.operation.GeneralOperation.TheVariants.{Reduce}
 use Rattle.polars_tables_operations.specs.declared.operation.GeneralOperation.TheVariants.{Extremes}
 use Rattle.polars_tables_operations.specs.declared.operation.NumericOperation.{NumericOperation}
 use Rattle.polars_tables_operations.specs.declared.operation.NumericOperation.TheVariants.{Change}
-use Rattle.polars_tables_operations.specs.declared.operation.NumericOperation.TheVariants.{Calculate}
-use Rattle.polars_tables_operations.specs.declared.operation.NumericOperation.TheVariants.{CalculateFromScalar}
+use Rattle.polars_tables_operations.specs.declared.operation.NumericOperation.TheVariants.{
+  Calculate,
+}
+use Rattle.polars_tables_operations.specs.declared.operation.NumericOperation.TheVariants.{
+  CalculateFromScalar,
+}
 use Rattle.polars_tables_operations.specs.declared.operation.NumericOperation.TheVariants.{Sum}
-use Rattle.polars_tables_operations.specs.declared.operation.NumericOperation.TheVariants.{DistinctInRange}
-use Rattle.polars_tables_operations.specs.declared.operation.NumericOperation.TheVariants.{HasAllOfRange}
+use Rattle.polars_tables_operations.specs.declared.operation.NumericOperation.TheVariants.{
+  DistinctInRange,
+}
+use Rattle.polars_tables_operations.specs.declared.operation.NumericOperation.TheVariants.{
+  HasAllOfRange,
+}
 use Rattle.polars_tables_operations.specs.declared.operation.Operand.{Operand}
 use Rattle.polars_tables_operations.specs.declared.operation.Operand.TheVariants.{Rows, Scalar}
 use Rattle.polars_tables_operations.specs.declared.operation.Operation.{Operation}

@@ -10,11 +10,19 @@ use Rattle.polars_tables_operations.specs.declared.operation.Change.{Change}
 use Rattle.polars_tables_operations.specs.declared.operation.Change.TheVariants.{Magnitude}
 use Rattle.polars_tables_operations.specs.declared.operation.Change.TheVariants.{Negation}
 use Rattle.polars_tables_operations.specs.declared.operation.OrderedCalculation.{OrderedCalculation}
-use Rattle.polars_tables_operations.specs.declared.operation.OrderedCalculation.TheVariants.{Subtract}
-use Rattle.polars_tables_operations.specs.declared.operation.OrderedCalculation.TheVariants.{FloorDivide}
-use Rattle.polars_tables_operations.specs.declared.operation.OrderedCalculation.TheVariants.{TruncatedDivide}
+use Rattle.polars_tables_operations.specs.declared.operation.OrderedCalculation.TheVariants.{
+  Subtract,
+}
+use Rattle.polars_tables_operations.specs.declared.operation.OrderedCalculation.TheVariants.{
+  FloorDivide,
+}
+use Rattle.polars_tables_operations.specs.declared.operation.OrderedCalculation.TheVariants.{
+  TruncatedDivide,
+}
 use Rattle.polars_tables_operations.specs.declared.operation.OrderedCalculation.TheVariants.{Modulo}
-use Rattle.polars_tables_operations.specs.declared.operation.OrderedCalculation.TheVariants.{LegacyDivide}
+use Rattle.polars_tables_operations.specs.declared.operation.OrderedCalculation.TheVariants.{
+  LegacyDivide,
+}
 
 -- a function of one number
 abbrev pub change_of : Change → Function

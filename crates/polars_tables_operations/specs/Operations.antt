@@ -19,25 +19,43 @@ use Rattle.polars_tables_operations.specs.declared.operation.Comparison.TheVaria
 use Rattle.polars_tables_operations.specs.declared.operation.Distinct.TheVariants.{Listed, Counted}
 use Rattle.polars_tables_operations.specs.declared.operation.Distinct.TheVariants.{PresentCounted}
 use Rattle.polars_tables_operations.specs.declared.operation.GeneralOperation.TheVariants.{Compare}
-use Rattle.polars_tables_operations.specs.declared.operation.GeneralOperation.TheVariants.{CountBits}
+use Rattle.polars_tables_operations.specs.declared.operation.GeneralOperation.TheVariants.{
+  CountBits,
+}
 use Rattle.polars_tables_operations.specs.declared.operation.GeneralOperation.TheVariants.{Reduce}
 use Rattle.polars_tables_operations.specs.declared.operation.GeneralOperation.TheVariants.{Extremes}
 use Rattle.polars_tables_operations.specs.declared.operation.NumericOperation.TheVariants.{Change}
-use Rattle.polars_tables_operations.specs.declared.operation.NumericOperation.TheVariants.{Calculate}
-use Rattle.polars_tables_operations.specs.declared.operation.NumericOperation.TheVariants.{CalculateFromScalar}
+use Rattle.polars_tables_operations.specs.declared.operation.NumericOperation.TheVariants.{
+  Calculate,
+}
+use Rattle.polars_tables_operations.specs.declared.operation.NumericOperation.TheVariants.{
+  CalculateFromScalar,
+}
 use Rattle.polars_tables_operations.specs.declared.operation.NumericOperation.TheVariants.{Sum}
-use Rattle.polars_tables_operations.specs.declared.operation.NumericOperation.TheVariants.{DistinctInRange}
-use Rattle.polars_tables_operations.specs.declared.operation.NumericOperation.TheVariants.{HasAllOfRange}
+use Rattle.polars_tables_operations.specs.declared.operation.NumericOperation.TheVariants.{
+  DistinctInRange,
+}
+use Rattle.polars_tables_operations.specs.declared.operation.NumericOperation.TheVariants.{
+  HasAllOfRange,
+}
 use Rattle.polars_tables_operations.specs.declared.operation.Operand.TheVariants.{Rows, Scalar}
 use Rattle.polars_tables_operations.specs.declared.operation.Operation.{Operation}
 use Rattle.polars_tables_operations.specs.declared.operation.Operation.TheVariants.{General}
 use Rattle.polars_tables_operations.specs.declared.operation.Operation.TheVariants.{Numeric}
 use Rattle.polars_tables_operations.specs.declared.operation.Operation.TheVariants.{DistinctTruths}
-use Rattle.polars_tables_operations.specs.declared.operation.OrderedCalculation.TheVariants.{Subtract}
-use Rattle.polars_tables_operations.specs.declared.operation.OrderedCalculation.TheVariants.{FloorDivide}
-use Rattle.polars_tables_operations.specs.declared.operation.OrderedCalculation.TheVariants.{TruncatedDivide}
+use Rattle.polars_tables_operations.specs.declared.operation.OrderedCalculation.TheVariants.{
+  Subtract,
+}
+use Rattle.polars_tables_operations.specs.declared.operation.OrderedCalculation.TheVariants.{
+  FloorDivide,
+}
+use Rattle.polars_tables_operations.specs.declared.operation.OrderedCalculation.TheVariants.{
+  TruncatedDivide,
+}
 use Rattle.polars_tables_operations.specs.declared.operation.OrderedCalculation.TheVariants.{Modulo}
-use Rattle.polars_tables_operations.specs.declared.operation.OrderedCalculation.TheVariants.{LegacyDivide}
+use Rattle.polars_tables_operations.specs.declared.operation.OrderedCalculation.TheVariants.{
+  LegacyDivide,
+}
 use Rattle.polars_tables_operations.specs.declared.operation.Reduction.TheVariants.{And, Or, Xor}
 use Rattle.polars_tables_operations.specs.declared.operation.Reduction.TheVariants.{Least, Greatest}
 use Rattle.polars_tables_rows.specs.declared.row_type.RowType.{RowType}

@@ -5,10 +5,18 @@ ghost use Rattle.std.specs.String.{string_bytes};
 ghost use Rattle.polars_arrays_flat.specs.StoredRows.{rows_under};
 ghost use Rattle.polars_tables_operations.specs.Answers.{comparison_answer, general_answer};
 ghost use Rattle.polars_tables_operations.specs.Answers.{row_or_none, rows_or_none};
-ghost use Rattle.polars_tables_operations.specs.declared.operation.GeneralOperation.TheVariants.{Compare};
-ghost use Rattle.polars_tables_operations.specs.declared.operation.GeneralOperation.TheVariants.{CountBits};
-ghost use Rattle.polars_tables_operations.specs.declared.operation.GeneralOperation.TheVariants.{Extremes};
-ghost use Rattle.polars_tables_operations.specs.declared.operation.GeneralOperation.TheVariants.{Reduce};
+ghost use Rattle.polars_tables_operations.specs.declared.operation.GeneralOperation.TheVariants.{
+  Compare,
+};
+ghost use Rattle.polars_tables_operations.specs.declared.operation.GeneralOperation.TheVariants.{
+  CountBits,
+};
+ghost use Rattle.polars_tables_operations.specs.declared.operation.GeneralOperation.TheVariants.{
+  Extremes,
+};
+ghost use Rattle.polars_tables_operations.specs.declared.operation.GeneralOperation.TheVariants.{
+  Reduce,
+};
 ghost use Rattle.polars_tables_operations.specs.declared.operation.Operand.TheVariants.{Rows};
 ghost use Rattle.polars_tables_operations.specs.declared.operation.Operand.TheVariants.{Scalar};
 ghost use Rattle.polars_tables_rows.specs.Faults.{Tells};

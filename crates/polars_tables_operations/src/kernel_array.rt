@@ -40,16 +40,20 @@ pub trait KernelArray: RowArray
     // A value has the same row as a scalar and as a stored value.
     ghost eq_scalar_law: { (s : Self.Value) → Self.TotalEqKernel.scalar_row s ≡ Self.value_row s };
 
-    ghost ord_scalar_law: { (s : Self.Value) → Self.TotalOrdKernel.scalar_row s ≡ Self.value_row s };
+    ghost ord_scalar_law: { (s : Self.Value) → Self.TotalOrdKernel.scalar_row s
+        ≡ Self.value_row s };
 
     ghost bit_scalar_law: { (s : Self.Value) → Self.BitwiseKernel.scalar_row s ≡ Self.value_row s };
 
-    ghost extreme_scalar_law: { (s : Self.Value) → Self.MinMaxKernel.scalar_row s ≡ Self.value_row s };
+    ghost extreme_scalar_law: { (s : Self.Value) → Self.MinMaxKernel.scalar_row s
+        ≡ Self.value_row s };
 
     // Kernels that name rows name those of the array, with the width of the type.
-    ghost bit_rows_law: { (a : Self) → Self.BitwiseKernel.rows a ≡ rows_under (Self.mask a) (Self.slots a) };
+    ghost bit_rows_law: { (a : Self) → Self.BitwiseKernel.rows a
+        ≡ rows_under (Self.mask a) (Self.slots a) };
 
-    ghost extreme_rows_law: { (a : Self) → Self.MinMaxKernel.rows a ≡ rows_under (Self.mask a) (Self.slots a) };
+    ghost extreme_rows_law: { (a : Self) → Self.MinMaxKernel.rows a
+        ≡ rows_under (Self.mask a) (Self.slots a) };
 
     ghost bit_width_law: { Self.BitwiseKernel.width ≡ width_of Self.kind };
 

@@ -10,12 +10,24 @@ ghost use Rattle.polars_compute_slots.specs.State.{State};
 ghost use Rattle.polars_tables_operations.specs.Answers.{calculation_answer, numeric_answer};
 ghost use Rattle.polars_tables_operations.specs.Answers.{scalar_calculation_answer};
 ghost use Rattle.polars_tables_operations.specs.Distinct.{of_state};
-ghost use Rattle.polars_tables_operations.specs.declared.operation.NumericOperation.TheVariants.{Calculate};
-ghost use Rattle.polars_tables_operations.specs.declared.operation.NumericOperation.TheVariants.{CalculateFromScalar};
-ghost use Rattle.polars_tables_operations.specs.declared.operation.NumericOperation.TheVariants.{Change as ChangeRows};
-ghost use Rattle.polars_tables_operations.specs.declared.operation.NumericOperation.TheVariants.{DistinctInRange};
-ghost use Rattle.polars_tables_operations.specs.declared.operation.NumericOperation.TheVariants.{HasAllOfRange};
-ghost use Rattle.polars_tables_operations.specs.declared.operation.NumericOperation.TheVariants.{Sum};
+ghost use Rattle.polars_tables_operations.specs.declared.operation.NumericOperation.TheVariants.{
+  Calculate,
+};
+ghost use Rattle.polars_tables_operations.specs.declared.operation.NumericOperation.TheVariants.{
+  CalculateFromScalar,
+};
+ghost use Rattle.polars_tables_operations.specs.declared.operation.NumericOperation.TheVariants.{
+  Change as ChangeRows,
+};
+ghost use Rattle.polars_tables_operations.specs.declared.operation.NumericOperation.TheVariants.{
+  DistinctInRange,
+};
+ghost use Rattle.polars_tables_operations.specs.declared.operation.NumericOperation.TheVariants.{
+  HasAllOfRange,
+};
+ghost use Rattle.polars_tables_operations.specs.declared.operation.NumericOperation.TheVariants.{
+  Sum,
+};
 ghost use Rattle.polars_tables_operations.specs.declared.operation.Operand.TheVariants.{Rows};
 ghost use Rattle.polars_tables_operations.specs.declared.operation.Operand.TheVariants.{Scalar};
 ghost use Rattle.polars_tables_rows.specs.Faults.{Tells, of_ends, of_number_scalar, of_one, of_two};

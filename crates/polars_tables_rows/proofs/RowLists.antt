@@ -93,7 +93,7 @@ lists-there type words = there (lists_of type words) (all_some-as_long (map (row
   there None h = tt
   there (Some xs) h = omega (arith, h, length-mapped (rows_of type) (slice_split is_bar words), some_parts words)
 
--- lists that were read with others behind them are more than those
+-- lists that were read with others after them are more than those
 pub too-many : (P Q : Type 0) (type : RowType) (words : List (List ℕ)) (all : Option (List (List Row))) (before : List (List Row)) (most : ℕ) → all ≡ option_map (λ more. before ++ more) (lists_of type words) → is_some (lists_of type words) ≡ true → length before ≡ most → Q
     → MatchOption all P (λ lists. Q × (most < length lists))
 too-many P Q type words all before most e some n q = rw e (there (lists_of type words) (lists-there type words) some) where

@@ -61,11 +61,13 @@ pub trait RowArray: Array + Sized + Drop {
             ≡ row (rows_under (Self.mask self.now) (Self.slots self.now)) i };
 
     // Parsing a word gives the value that the word denotes.
-    ghost parse_law: { (word : List ℕ) (r : Result Self.Value Self.Value.Err) → Self.Value.from_str_gives word r
+    ghost parse_law: { (word : List ℕ) (r : Result Self.Value Self.Value.Err)
+        → Self.Value.from_str_gives word r
         → option_map value_row (result_ok r) ≡ value_of kind word };
 
     // A value is printed as its word.
-    ghost shown_law: { (x : Self.Value) → Self.Value.Display.output x ≡ Some (row_word (value_row x)) };
+    ghost shown_law: { (x : Self.Value) → Self.Value.Display.output x
+        ≡ Some (row_word (value_row x)) };
 }
 
 impl<T: RowNumber> RowArray for PrimitiveArray<T> {

@@ -138,7 +138,8 @@ pub fn parse_lists<A: RowArray>(alloc: Global, most: usize, text: &str) -> Resul
     ensures lists { IfOk result (λ lists. lists_of A.kind (words_of text.now)
         ≡ Some (map (λ a. rows_under (A.mask a) (A.slots a)) lists.items)) }
     ensures kept { IfOk result (λ lists. vec_len lists ≤ most) }
-    ensures fault { IfErr result (λ e. UnlessMemory e (MatchOption (lists_of A.kind (words_of text.now))
+    ensures fault { IfErr result
+        (λ e. UnlessMemory e (MatchOption (lists_of A.kind (words_of text.now))
         (e ≡ LineError.Row) (λ lists. (e ≡ LineError.Length) × (most < length lists)))) }
 {
     let mut lists = Vec::new(alloc);

@@ -1,11 +1,13 @@
 //! Operations on arrays of numbers of a type of 8 to 64 bits.
 //!
-//! | Call | Result |
-//! |---|---|
-//! | `wrapping_abs A`, `wrapping_neg A` | the rows of the function's results |
-//! | `wrapping_add A B`, and so of `sub`, `mul`, `floor_div`, `trunc_div` and `mod`, `legacy_div A B` | the rows of the operation's results for two arrays of one type and length |
-//! | `wrapping_add_scalar A NUMBER` and so on | the rows of the operation's results for an array and a number |
-//! | `wrapping_sub_scalar_lhs NUMBER A`, and so of `floor_div`, `trunc_div` and `mod`, `legacy_div_scalar_lhs NUMBER A` | the rows of the operation's results for a number and an array |
+//! - `wrapping_abs A`, `wrapping_neg A`: the rows of the function's results
+//! - `wrapping_add A B`, and so of `sub`, `mul`, `floor_div`, `trunc_div` and `mod`,
+//!   `legacy_div A B`: the rows of the operation's results for two arrays of one type and length
+//! - `wrapping_add_scalar A NUMBER` and so on: the rows of the operation's results for an array and
+//!   a number
+//! - `wrapping_sub_scalar_lhs NUMBER A`, and so of `floor_div`, `trunc_div` and `mod`,
+//!   `legacy_div_scalar_lhs NUMBER A`: the rows of the operation's results for a number and an
+//!   array
 
 ghost use Rattle.std.specs.Prelude.{◌≡◌, length};
 ghost use Rattle.recorded_text.specs.Cases.{HasGoodArrays};

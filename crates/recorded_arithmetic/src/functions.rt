@@ -1,11 +1,12 @@
 //! Functions applied to the stored values of arrays.
 //!
-//! | Call | Result |
-//! |---|---|
-//! | `prim_unary_values FUNCTION A` | the rows of the array of the function's results |
-//! | `prim_unary_in_place FUNCTION A` | the rows of the array of the function's results, for numbers of 8 to 64 bits |
-//! | `prim_binary_values FUNCTION A B` | the rows of the array of the function's results for the pairs of values of two arrays of equal length |
-//! | `prim_binary_in_place FUNCTION A B` | the rows of the array of the function's results for the pairs of values of two arrays of one type and length |
+//! - `prim_unary_values FUNCTION A`: the rows of the array of the function's results
+//! - `prim_unary_in_place FUNCTION A`: the rows of the array of the function's results, for numbers
+//!   of 8 to 64 bits
+//! - `prim_binary_values FUNCTION A B`: the rows of the array of the function's results for the
+//!   pairs of values of two arrays of equal length
+//! - `prim_binary_in_place FUNCTION A B`: the rows of the array of the function's results for the
+//!   pairs of values of two arrays of one type and length
 //!
 //! Each call has FUNCTIONs of its own.
 

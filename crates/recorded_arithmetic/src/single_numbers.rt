@@ -1,10 +1,10 @@
 //! Operations on single numbers of a type of 8 to 64 bits.
 //!
-//! | Call | Result |
-//! |---|---|
-//! | `pl_num wrapping_abs TYPE NUMBER`, and so of `wrapping_neg` | the function's result |
-//! | `pl_num wrapping_add TYPE NUMBER NUMBER`, and so of `sub`, `mul`, `floor_div`, `trunc_div`, `mod` and `legacy_div` | the operation's result, which is 0 for a quotient by 0 and its modulus |
-//! | `wrapping_add_number TYPE NUMBER NUMBER` | the sum of two numbers, also of the types `isize` and `usize` |
+//! - `pl_num wrapping_abs TYPE NUMBER`, and so of `wrapping_neg`: the function's result
+//! - `pl_num wrapping_add TYPE NUMBER NUMBER`, and so of `sub`, `mul`, `floor_div`, `trunc_div`,
+//!   `mod` and `legacy_div`: the operation's result, which is 0 for a quotient by 0 and its modulus
+//! - `wrapping_add_number TYPE NUMBER NUMBER`: the sum of two numbers, also of the types `isize`
+//!   and `usize`
 
 use crate::made::write_number;
 use crate::operations::{Function, Operation};

@@ -1,10 +1,8 @@
 //! Sums of numbers of a type of 8 to 64 bits.
 //!
-//! | Call | Result |
-//! |---|---|
-//! | `wrapping_sum_arr A` | the sum of the present rows |
-//! | `wrapping_sum A` | the sum of the stored values |
-//! | `wrapping_sum_with_validity A BITS` | the sum of the stored values whose bit is 1 |
+//! - `wrapping_sum_arr A`: the sum of the present rows
+//! - `wrapping_sum A`: the sum of the stored values
+//! - `wrapping_sum_with_validity A BITS`: the sum of the stored values whose bit is 1
 
 ghost use Rattle.recorded_text.specs.Cases.{HasGoodArrays};
 

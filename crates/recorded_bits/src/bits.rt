@@ -1,22 +1,26 @@
 //! Calls on bitmaps.
 //!
-//! | Call | Result |
-//! |---|---|
-//! | `and X Y`, `or`, `xor`, `xnor`, `and_not`, `or_not` | the bits of the operator on two bitmaps of one length |
-//! | `not X` | the negated bits |
-//! | `merge_eq Q L R`, `merge_ne Q L R` | equality and inequality of rows by their values' bits and presence |
-//! | `set_bits X`, `unset_bits X`, `bitmap_len X` | the number of true bits, of false bits, and of all |
-//! | `num_intersections_with X Y` | the number of places where both are true |
-//! | `get_bit X I`, `bitmap_get X I` | bit I; `bitmap_get` also returns `none` |
-//! | `bitmap_slice X AT N` | the N bits from place AT on |
-//! | `bitmap_share X`, `clone_bitmap X` | the same bits, shared and copied |
-//! | `slice_clone X AT N` | those N bits of a clone that shares the words of X, and then X |
-//! | `meet_shared X P Q N` | the number of places where two windows of N bits, at P and Q, of shared words are true |
-//! | `new_zeroed N`, `new_with_value VALUE N` | N bits of one value |
-//! | `set_bits_filled VALUE N` | the number of true bits among N bits of one value |
-//! | `from_bools N VALUE..`, `from_words N WORD.. AT COUNT` | the bits of truth values, or of words from bit AT on |
-//! | `from_values X`, `from_wide_values X` | the bits of X, packed one by one |
-//! | `from_counted X N COST..` | the bits of X, packed one by one, and a counter to which the cost of each is added |
+//! - `and X Y`, `or`, `xor`, `xnor`, `and_not`, `or_not`: the bits of the operator on two bitmaps
+//!   of one length
+//! - `not X`: the negated bits
+//! - `merge_eq Q L R`, `merge_ne Q L R`: equality and inequality of rows by their values' bits and
+//!   presence
+//! - `set_bits X`, `unset_bits X`, `bitmap_len X`: the number of true bits, of false bits, and of
+//!   all
+//! - `num_intersections_with X Y`: the number of places where both are true
+//! - `get_bit X I`, `bitmap_get X I`: bit I; `bitmap_get` also returns `none`
+//! - `bitmap_slice X AT N`: the N bits from place AT on
+//! - `bitmap_share X`, `clone_bitmap X`: the same bits, shared and copied
+//! - `slice_clone X AT N`: those N bits of a clone that shares the words of X, and then X
+//! - `meet_shared X P Q N`: the number of places where two windows of N bits, at P and Q, of shared
+//!   words are true
+//! - `new_zeroed N`, `new_with_value VALUE N`: N bits of one value
+//! - `set_bits_filled VALUE N`: the number of true bits among N bits of one value
+//! - `from_bools N VALUE..`, `from_words N WORD.. AT COUNT`: the bits of truth values, or of words
+//!   from bit AT on
+//! - `from_values X`, `from_wide_values X`: the bits of X, packed one by one
+//! - `from_counted X N COST..`: the bits of X, packed one by one, and a counter to which the cost
+//!   of each is added
 
 ghost use Rattle.std.specs.Prelude.{◌↔◌, ◌+◌, ◌≤◌, IsTrue};
 

@@ -3,17 +3,16 @@
 //! A call is `buffer TYPE N NUMBER.. OPERATION..`, for a buffer that owns N numbers, up to the
 //! operation `end`. The result is the results of the operations, one after the other.
 //!
-//! | Operation | Result |
-//! |---|---|
-//! | `slice AT N` | none: keeps the N elements from place AT on |
-//! | `share` | none: makes the elements shared with later clones |
-//! | `clone` | none: the next operations are those of a clone |
-//! | `get_mut I NUMBER` | `some` if the buffer owns its elements, and then sets element I to the number; otherwise `none` |
-//! | `as_mut_slice I NUMBER` | none: sets element I to the number |
-//! | `is_owned` | whether the buffer owns its elements |
-//! | `len` | the number of elements |
-//! | `list` | the elements |
-//! | `first` | the elements of the buffer that was cloned last |
+//! - `slice AT N`: none; keeps the N elements from place AT on
+//! - `share`: none; makes the elements shared with later clones
+//! - `clone`: none; the next operations are those of a clone
+//! - `get_mut I NUMBER`: `some` if the buffer owns its elements, and then sets element I to the
+//!   number; otherwise `none`
+//! - `as_mut_slice I NUMBER`: none; sets element I to the number
+//! - `is_owned`: whether the buffer owns its elements
+//! - `len`: the number of elements
+//! - `list`: the elements
+//! - `first`: the elements of the buffer that was cloned last
 
 use crate::answer_text::{Told, write_numbers};
 use crate::bits::{is_within, read_pair};

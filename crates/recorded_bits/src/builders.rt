@@ -3,15 +3,13 @@
 //! A call is `builder N OPERATION..`, for a builder with room for N bits, up to the operation
 //! `freeze`. The result is the results of the operations, one after the other.
 //!
-//! | Operation | Result |
-//! |---|---|
-//! | `push VALUE` | none: pushes a bit |
-//! | `fill N VALUE` | none: pushes N bits of one value |
-//! | `values X`, `wide_values X` | none: pushes the bits of X, packed one by one |
-//! | `len` | the number of bits |
-//! | `room N` | whether N more bits fit |
-//! | `fallen` | the decrease of the room since the builder was created |
-//! | `freeze` | all bits |
+//! - `push VALUE`: none; pushes a bit
+//! - `fill N VALUE`: none; pushes N bits of one value
+//! - `values X`, `wide_values X`: none; pushes the bits of X, packed one by one
+//! - `len`: the number of bits
+//! - `room N`: whether N more bits fit
+//! - `fallen`: the decrease of the room since the builder was created
+//! - `freeze`: all bits
 
 use crate::answer_text::{Told, write_told};
 use crate::bits::{read_bitmap, read_truth};

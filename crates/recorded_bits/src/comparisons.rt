@@ -1,13 +1,14 @@
 //! Calls of comparisons of numbers. A COMPARISON is `equal`, `unequal`, `less`, `less_or_equal`,
 //! `greater` or `greater_or_equal`, and a LIST is a count and that many numbers.
 //!
-//! | Call | Result |
-//! |---|---|
-//! | `compare COMPARISON TYPE LEFT RIGHT` | whether the comparison holds of two numbers |
-//! | `packs_by_bit COMPARISON TYPE` | whether the numbers have more than 64 bits |
-//! | `compare_pairs COMPARISON TYPE LIST LIST` | for two lists of equal length, whether it holds at each place |
-//! | `compare_windows COMPARISON TYPE LIST AT LIST AT N` | for N numbers of each list from a place on, whether it holds at each place |
-//! | `compare_constant COMPARISON TYPE LIST NUMBER` | for each number of a list, whether it holds of it and the last number |
+//! - `compare COMPARISON TYPE LEFT RIGHT`: whether the comparison holds of two numbers
+//! - `packs_by_bit COMPARISON TYPE`: whether the numbers have more than 64 bits
+//! - `compare_pairs COMPARISON TYPE LIST LIST`: for two lists of equal length, whether it holds at
+//!   each place
+//! - `compare_windows COMPARISON TYPE LIST AT LIST AT N`: for N numbers of each list from a place
+//!   on, whether it holds at each place
+//! - `compare_constant COMPARISON TYPE LIST NUMBER`: for each number of a list, whether it holds of
+//!   it and the last number
 
 use crate::answer_text::write_value;
 use crate::bits::{is_within, read_pair};

@@ -1,9 +1,10 @@
 //! The texts of errors.
 //!
-//! | Call | Result |
-//! |---|---|
-//! | `compute_error memory`, `compute_error unsupported`, `compute_error key KEY LEN` | the text of an error of a computation |
-//! | `array_error length`, `array_error offsets ROW`, `array_error field AT`, `array_error view ROW`, `array_error not_utf8 ROW`, `array_error key ROW` | the text of an error of the parts of an array |
+//! - `compute_error memory`, `compute_error unsupported`, `compute_error key KEY LEN`: the text of
+//!   an error of a computation
+//! - `array_error length`, `array_error offsets ROW`, `array_error field AT`,
+//!   `array_error view ROW`, `array_error not_utf8 ROW`, `array_error key ROW`: the text of an
+//!   error of the parts of an array
 
 use crate::bits::read_pair;
 use polars_arrays_bits::error::{ArrayError, ComputeError};

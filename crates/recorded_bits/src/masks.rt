@@ -1,18 +1,19 @@
 //! Calls on borrowed windows of bitmaps. A MASK is three words: bits, the place where its window
 //! begins, and the number of its bits.
 //!
-//! | Call | Result |
-//! |---|---|
-//! | `mask_and MASK MASK`, `mask_or`, `mask_xor`, `mask_xnor`, `mask_and_not`, `mask_or_not` | the bits of the operator on two windows of one length |
-//! | `mask_not MASK` | the negated bits |
-//! | `mask_merge_eq MASK MASK MASK`, `mask_merge_ne MASK MASK MASK` | equality and inequality of rows by their values' bits and presence |
-//! | `to_bitmap MASK` | the bits |
-//! | `window MASK AT N` | the N bits from place AT on |
-//! | `mask_len MASK`, `mask_unset_bits MASK` | the number of bits, and of false bits |
-//! | `mask_get MASK I` | bit I |
-//! | `few_bits MASK AT N` | the N bits from place AT on as a number, the first one lowest |
-//! | `all_set MASK AT N` | whether the N bits from place AT on are all true |
-//! | `all_in_blocks MASK WIDTH N` | for each of N blocks of WIDTH bits, whether all its bits are true |
+//! - `mask_and MASK MASK`, `mask_or`, `mask_xor`, `mask_xnor`, `mask_and_not`, `mask_or_not`: the
+//!   bits of the operator on two windows of one length
+//! - `mask_not MASK`: the negated bits
+//! - `mask_merge_eq MASK MASK MASK`, `mask_merge_ne MASK MASK MASK`: equality and inequality of
+//!   rows by their values' bits and presence
+//! - `to_bitmap MASK`: the bits
+//! - `window MASK AT N`: the N bits from place AT on
+//! - `mask_len MASK`, `mask_unset_bits MASK`: the number of bits, and of false bits
+//! - `mask_get MASK I`: bit I
+//! - `few_bits MASK AT N`: the N bits from place AT on as a number, the first one lowest
+//! - `all_set MASK AT N`: whether the N bits from place AT on are all true
+//! - `all_in_blocks MASK WIDTH N`: for each of N blocks of WIDTH bits, whether all its bits are
+//!   true
 
 ghost use Rattle.std.specs.Prelude.{◌≡◌, ◌+◌, ◌≤◌, length, IfOk};
 

@@ -4,17 +4,18 @@
 //! `mutable of X OPERATION..`, for N false bits, N true bits, or the bits of X, up to the operation
 //! `freeze`. The result is the results of the operations, one after the other.
 //!
-//! | Operation | Result |
-//! |---|---|
-//! | `set I VALUE` | none: sets bit I |
-//! | `or X` | none: joins each bit with that of X by OR; X becomes a mutable bitmap |
-//! | `and X` | none: joins each bit with that of X by AND |
-//! | `and_values X`, `and_wide_values X` | none: joins each bit with that of X by AND; the bits of X are packed one by one |
-//! | `and_mask X`, `or_not_mask X` | none: joins each bit with that of X by AND, or with its negation by OR |
-//! | `merge_eq L R`, `merge_ne L R` | none: equality and inequality of rows, from that of their values; L and R have the present rows |
-//! | `get I` | bit I |
-//! | `len`, `count` | the number of bits, and of true bits |
-//! | `freeze` | all bits |
+//! - `set I VALUE`: none; sets bit I
+//! - `or X`: none; joins each bit with that of X by OR; X becomes a mutable bitmap
+//! - `and X`: none; joins each bit with that of X by AND
+//! - `and_values X`, `and_wide_values X`: none; joins each bit with that of X by AND; the bits of X
+//!   are packed one by one
+//! - `and_mask X`, `or_not_mask X`: none; joins each bit with that of X by AND, or with its
+//!   negation by OR
+//! - `merge_eq L R`, `merge_ne L R`: none; equality and inequality of rows, from that of their
+//!   values; L and R have the present rows
+//! - `get I`: bit I
+//! - `len`, `count`: the number of bits, and of true bits
+//! - `freeze`: all bits
 
 use crate::answer_text::{Told, write_told, write_value};
 use crate::bits::{read_bitmap, read_bitmaps, read_truth};

@@ -1,13 +1,14 @@
 //! Calls on number types, on offsets and keys, and on the counter.
 //!
-//! | Call | Result |
-//! |---|---|
-//! | `least_value TYPE`, `greatest_value TYPE` | the least and the greatest number of the type |
-//! | `number_width TYPE` | the number of bits of a value |
-//! | `is_signed TYPE`, `has_wide_values TYPE` | whether it has numbers below 0, and more than 64 bits |
-//! | `to_place TYPE OFFSET`, `place TYPE OFFSET` | the offset as a place; `to_place` also returns `none` |
-//! | `to_entry TYPE KEY` | the entry that the key names, or `none` |
-//! | `steps N NUMBER..`, `default_steps N NUMBER..` | the count of a counter after the N numbers were added |
+//! - `least_value TYPE`, `greatest_value TYPE`: the least and the greatest number of the type
+//! - `number_width TYPE`: the number of bits of a value
+//! - `is_signed TYPE`, `has_wide_values TYPE`: whether it has numbers below 0, and more than 64
+//!   bits
+//! - `to_place TYPE OFFSET`, `place TYPE OFFSET`: the offset as a place; `to_place` also returns
+//!   `none`
+//! - `to_entry TYPE KEY`: the entry that the key names, or `none`
+//! - `steps N NUMBER..`, `default_steps N NUMBER..`: the count of a counter after the N numbers
+//!   were added
 
 use crate::answer_text::{write_found, write_value};
 use crate::number_types::{NumberType, read_type};

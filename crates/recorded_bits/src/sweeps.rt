@@ -1,10 +1,9 @@
 //! Calls at all places of words, with a sum over their results.
 //!
-//! | Call | Result |
-//! |---|---|
-//! | `sweep CALL N` | the sum over the results of a call on bitmaps or masks of N bits |
-//! | `sweep all_set N`, `sweep extend_values N`, `sweep extend_wide_values N` | the sum over the results for runs of N bits |
-//! | `sweep_blocks WIDTH N` | the sum over the results for N blocks of WIDTH bits |
+//! - `sweep CALL N`: the sum over the results of a call on bitmaps or masks of N bits
+//! - `sweep all_set N`, `sweep extend_values N`, `sweep extend_wide_values N`: the sum over the
+//!   results for runs of N bits
+//! - `sweep_blocks WIDTH N`: the sum over the results for N blocks of WIDTH bits
 //!
 //! A call with two or three operands is made at all pairs of places from 0 to 65: the first operand
 //! is the first list at the first place, the second one the second list at the second place, and

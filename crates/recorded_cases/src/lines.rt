@@ -1,15 +1,15 @@
 //! Calls of the line language: results of lines, output of runs, and exit statuses of the program.
 //!
-//! | Call | Result |
-//! |---|---|
-//! | `line TEXT` | the result of the line after `line `, or its fault |
-//! | `line_bytes BYTES` | the result of the line of these bytes, which may be unprintable |
-//! | `line_repeated N PIECE BYTES` | the result of the line of these bytes and then N times the bytes of PIECE, which may be very long |
-//! | `run BYTES` | the number of lines of this input, the number of refused ones, and the bytes written |
-//! | `demo` | the bytes that the demo writes |
-//! | `command WORD..` | the command of these arguments |
-//! | `exit_status lines N refused N`, `exit_status FAULT` | the status after such a run |
-//! | `fault_text FAULT` | the message of a run that stopped, by `read`, `write` or `memory` |
+//! - `line TEXT`: the result of the line after `line `, or its fault
+//! - `line_bytes BYTES`: the result of the line of these bytes, which may be unprintable
+//! - `line_repeated N PIECE BYTES`: the result of the line of these bytes and then N times the
+//!   bytes of PIECE, which may be very long
+//! - `run BYTES`: the number of lines of this input, the number of refused ones, and the bytes
+//!   written
+//! - `demo`: the bytes that the demo writes
+//! - `command WORD..`: the command of these arguments
+//! - `exit_status lines N refused N`, `exit_status FAULT`: the status after such a run
+//! - `fault_text FAULT`: the message of a run that stopped, by `read`, `write` or `memory`
 
 use polars_tables_lines::arguments::command;
 use polars_tables_lines::demo::demo;

@@ -1,11 +1,10 @@
 //! Kernels of two arrays of any kind.
 //!
-//! | Call | Result |
-//! |---|---|
-//! | `array_tot_eq_missing_kernel A B`, `array_tot_ne_missing_kernel A B` | the bits |
-//! | `array_tot_eq_missing_kernel_with_steps A B` | `BITS in N comparisons` |
-//! | `list_broadcast LISTS ITEMS`, `fixed_size_list_broadcast LISTS ITEMS` | the bits, including those of masked rows |
-//! | `law_tally`, `law_steps` | `holds` |
+//! - `array_tot_eq_missing_kernel A B`, `array_tot_ne_missing_kernel A B`: the bits
+//! - `array_tot_eq_missing_kernel_with_steps A B`: `BITS in N comparisons`
+//! - `list_broadcast LISTS ITEMS`, `fixed_size_list_broadcast LISTS ITEMS`: the bits, including
+//!   those of masked rows
+//! - `law_tally`, `law_steps`: `holds`
 
 ghost use Rattle.std.specs.Prelude.{◌≡◌, IfOk};
 ghost use Rattle.polars_arrays_nested.specs.GoodParts.{IsGood};

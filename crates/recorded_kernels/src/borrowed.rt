@@ -1,10 +1,9 @@
 //! Kernels of an array and a borrowed byte string or text. Their names have the prefixes `bytes_`
 //! and `text_`.
 //!
-//! | Call | Result |
-//! |---|---|
-//! | `bytes_tot_eq_kernel_broadcast ARRAY BYTES` and so on | the bits, with `x` for masked rows |
-//! | `text_tot_eq_kernel_broadcast ARRAY BYTES` and so on | the bits for a text, written as its bytes, with `x` for masked rows |
+//! - `bytes_tot_eq_kernel_broadcast ARRAY BYTES` and so on: the bits, with `x` for masked rows
+//! - `text_tot_eq_kernel_broadcast ARRAY BYTES` and so on: the bits for a text, written as its
+//!   bytes, with `x` for masked rows
 
 ghost use Rattle.recorded_text.specs.Cases.{HasGoodArrays};
 

@@ -1,9 +1,8 @@
 //! The join of raw bits with two masks.
 //!
-//! | Call | Result |
-//! |---|---|
-//! | `join_nulls RELATION BITS VALIDITY VALIDITY` | the bits joined; RELATION is `equal` or `unequal` |
-//! | `join_masks RELATION BITS VALIDITY VALIDITY` | the bits joined with windows of validities |
+//! - `join_nulls RELATION BITS VALIDITY VALIDITY`: the bits joined; RELATION is `equal` or
+//!   `unequal`
+//! - `join_masks RELATION BITS VALIDITY VALIDITY`: the bits joined with windows of validities
 
 ghost use Rattle.std.specs.Prelude.{◌≡◌};
 

@@ -1,11 +1,11 @@
 //! The six comparisons of two rows by name: `equal`, `unequal`, `less`, `less_or_equal`, `greater`
 //! and `greater_or_equal`.
 //!
-//! | Call | Result |
-//! |---|---|
-//! | `truth_comparison COMPARISON TRUTH TRUTH` | whether the comparison of two truth values holds |
-//! | `truth_comparison_masks COMPARISON BITS BITS` | for two windows of equal length, whether it holds at each place |
-//! | `byte_comparison COMPARISON BYTES BYTES`, `byte_comparison_constant COMPARISON BYTES BYTES` | whether the comparison of two byte strings holds |
+//! - `truth_comparison COMPARISON TRUTH TRUTH`: whether the comparison of two truth values holds
+//! - `truth_comparison_masks COMPARISON BITS BITS`: for two windows of equal length, whether it
+//!   holds at each place
+//! - `byte_comparison COMPARISON BYTES BYTES`, `byte_comparison_constant COMPARISON BYTES BYTES`:
+//!   whether the comparison of two byte strings holds
 //!
 //! The calls of `stored_rows` and of `stored_numbers`, and some of `view_rows`, take a comparison
 //! too.

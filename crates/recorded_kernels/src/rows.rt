@@ -1,10 +1,9 @@
 //! Kernels of two arrays of one kind.
 //!
-//! | Call | Result |
-//! |---|---|
-//! | `can_compare A B` | a truth value |
-//! | `tot_eq_kernel A B`, and so of `ne`, `lt`, `le`, `gt` and `ge` | the bits, with `x` for masked rows |
-//! | `tot_eq_missing_kernel A B`, `tot_ne_missing_kernel A B` | the bits |
+//! - `can_compare A B`: a truth value
+//! - `tot_eq_kernel A B`, and so of `ne`, `lt`, `le`, `gt` and `ge`: the bits, with `x` for masked
+//!   rows
+//! - `tot_eq_missing_kernel A B`, `tot_ne_missing_kernel A B`: the bits
 
 ghost use Rattle.polars_arrays_nested.specs.GoodParts.{IsGood};
 ghost use Rattle.recorded_text.specs.Cases.{HasGoodArrays};

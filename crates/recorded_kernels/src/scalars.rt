@@ -1,11 +1,10 @@
 //! Kernels of an array and an owned scalar: a number, a truth value, the bytes of a string or of a
 //! text, or the name of an array whose rows are the items of a list.
 //!
-//! | Call | Result |
-//! |---|---|
-//! | `can_broadcast A SCALAR` | a truth value |
-//! | `tot_eq_kernel_broadcast A SCALAR`, and so of `ne`, `lt`, `le`, `gt` and `ge` | the bits, with `x` for masked rows |
-//! | `tot_eq_missing_kernel_broadcast A SCALAR`, and so of `ne` | the bits |
+//! - `can_broadcast A SCALAR`: a truth value
+//! - `tot_eq_kernel_broadcast A SCALAR`, and so of `ne`, `lt`, `le`, `gt` and `ge`: the bits, with
+//!   `x` for masked rows
+//! - `tot_eq_missing_kernel_broadcast A SCALAR`, and so of `ne`: the bits
 //!
 //! For a kind without broadcasts the result is `refused: not supported`.
 

@@ -1,10 +1,10 @@
 //! Arrays of numbers of each type: kernels of rows, and comparisons of stored numbers, whatever the
 //! validity. A COMPARISON is one of `named_comparisons`.
 //!
-//! | Call | Result |
-//! |---|---|
-//! | `compare_number_windows COMPARISON A a B b n` | for `n` rows from row `a` on of A and from row `b` on of B, whether the comparison holds at each place |
-//! | `compare_number COMPARISON A NUMBER` | for each number, whether the comparison with a constant holds |
+//! - `compare_number_windows COMPARISON A a B b n`: for `n` rows from row `a` on of A and from row
+//!   `b` on of B, whether the comparison holds at each place
+//! - `compare_number COMPARISON A NUMBER`: for each number, whether the comparison with a constant
+//!   holds
 
 ghost use Rattle.std.specs.Prelude.{◌+◌, ◌≤◌, length};
 ghost use Rattle.recorded_text.specs.Cases.{HasGoodArrays};

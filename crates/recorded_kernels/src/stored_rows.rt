@@ -1,11 +1,12 @@
 //! Comparisons of stored rows, whatever the validity. A COMPARISON is one of `named_comparisons`.
 //!
-//! | Call | Result |
-//! |---|---|
-//! | `compare_truth_windows COMPARISON A a B b n`, and so of `byte` and `sized` | whether the comparison holds at each place |
-//! | `compare_view_windows COMPARISON A a B b n` | `BITS in N`, where N is the number of pairs looked up in buffers |
-//! | `compare_truth COMPARISON A TRUTH` | whether the comparison of each row with a constant holds |
-//! | `compare_bytes COMPARISON A BYTES`, `compare_view_bytes COMPARISON A BYTES` | whether the comparison of each row with a constant holds |
+//! - `compare_truth_windows COMPARISON A a B b n`, and so of `byte` and `sized`: whether the
+//!   comparison holds at each place
+//! - `compare_view_windows COMPARISON A a B b n`: `BITS in N`, where N is the number of pairs
+//!   looked up in buffers
+//! - `compare_truth COMPARISON A TRUTH`: whether the comparison of each row with a constant holds
+//! - `compare_bytes COMPARISON A BYTES`, `compare_view_bytes COMPARISON A BYTES`: whether the
+//!   comparison of each row with a constant holds
 //!
 //! A window is `n` rows from row `a` on of A, and from row `b` on of B.
 

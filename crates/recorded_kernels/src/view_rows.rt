@@ -1,13 +1,15 @@
 //! Single rows of arrays of views, and the kernels that count the pairs they look up in buffers.
 //!
-//! | Call | Result |
-//! |---|---|
-//! | `rows_equal A i B j`, `row_less A i B j` | `TRUTH in N`, where N is the number of pairs looked up in buffers |
-//! | `row_equals_bytes A i BYTES`, `row_less_bytes A i BYTES`, `bytes_less_row BYTES A i` | a truth value |
-//! | `view_comparison COMPARISON A i B j`, `view_comparison_bytes COMPARISON A i BYTES` | the result of one of `named_comparisons`, in the same form |
-//! | `tot_eq_kernel_followed A B`, `tot_lt_kernel_followed A B` | `BITS in N`, including masked rows |
-//! | `followed A B` | the two counts alone |
-//! | `scalar_row_len BYTES`, `scalar_row_bytes BYTES`, `scalar_row_prefix BYTES` | a part of the prepared byte string |
+//! - `rows_equal A i B j`, `row_less A i B j`: `TRUTH in N`, where N is the number of pairs looked
+//!   up in buffers
+//! - `row_equals_bytes A i BYTES`, `row_less_bytes A i BYTES`, `bytes_less_row BYTES A i`: a truth
+//!   value
+//! - `view_comparison COMPARISON A i B j`, `view_comparison_bytes COMPARISON A i BYTES`: the result
+//!   of one of `named_comparisons`, in the same form
+//! - `tot_eq_kernel_followed A B`, `tot_lt_kernel_followed A B`: `BITS in N`, including masked rows
+//! - `followed A B`: the two counts alone
+//! - `scalar_row_len BYTES`, `scalar_row_bytes BYTES`, `scalar_row_prefix BYTES`: a part of the
+//!   prepared byte string
 
 ghost use Rattle.std.specs.Prelude.{◌≡◌, ◌<◌, length, IfOk};
 ghost use Rattle.recorded_text.specs.Cases.{HasGoodArrays};

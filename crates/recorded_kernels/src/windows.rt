@@ -1,11 +1,10 @@
 //! Windows of two arrays of any kind: `n` rows from row `a` on of the left array and from row `b`
 //! on of the right one.
 //!
-//! | Call | Result |
-//! |---|---|
-//! | `array_tot_eq_missing_kernel_counted A B [LEAVES]`, and so of `ne` | `BITS in N comparisons` |
-//! | `equal_windows A a B b n [LEAVES]` | `BITS in N comparisons` |
-//! | `list_windows`, `fixed_size_list_windows`, `struct_windows`, `dictionary_windows`, `leaf_eq` | `BITS in N comparisons`, with `x` for masked rows |
+//! - `array_tot_eq_missing_kernel_counted A B [LEAVES]`, and so of `ne`: `BITS in N comparisons`
+//! - `equal_windows A a B b n [LEAVES]`: `BITS in N comparisons`
+//! - `list_windows`, `fixed_size_list_windows`, `struct_windows`, `dictionary_windows`, `leaf_eq`:
+//!   `BITS in N comparisons`, with `x` for masked rows
 //!
 //! LEAVES is `always` or `never`, for a kernel in which all leaves agree, or none.
 

@@ -1,10 +1,10 @@
 //! Counts of the bits of each row, and reductions of the bits of all rows, of truth values and of
 //! numbers of 8 to 64 bits.
 //!
-//! | Call | Result |
-//! |---|---|
-//! | `count_ones A`, and so of `count_zeros`, `leading_ones`, `leading_zeros`, `trailing_ones` and `trailing_zeros` | the rows of the counts |
-//! | `reduce_and A`, and so of `or` and `xor` | a number or a truth value, or `none` if no row is present |
+//! - `count_ones A`, and so of `count_zeros`, `leading_ones`, `leading_zeros`, `trailing_ones` and
+//!   `trailing_zeros`: the rows of the counts
+//! - `reduce_and A`, and so of `or` and `xor`: a number or a truth value, or `none` if no row is
+//!   present
 
 use crate::calls::{BitQuestion, Count, Join};
 use crate::found_text::push_found;

@@ -1,9 +1,10 @@
 //! Extremes of arrays of any kind.
 //!
-//! | Call | Result |
-//! |---|---|
-//! | `dyn_array_min_ignore_nan A`, and so of `max_ignore_nan`, `min_propagate_nan` and `max_propagate_nan` | the name of the array's kind and the row, `none` if no row is present, or `refused: not supported` |
-//! | `dyn_array_min_max_propagate_nan A` | the kind and the least and the greatest row, `none`, or `refused: not supported` |
+//! - `dyn_array_min_ignore_nan A`, and so of `max_ignore_nan`, `min_propagate_nan` and
+//!   `max_propagate_nan`: the name of the array's kind and the row, `none` if no row is present, or
+//!   `refused: not supported`
+//! - `dyn_array_min_max_propagate_nan A`: the kind and the least and the greatest row, `none`, or
+//!   `refused: not supported`
 
 use crate::calls::Extremes;
 use crate::found_text::push_none;

@@ -1,12 +1,14 @@
 //! Extremes of arrays of one kind, and of slices of numbers.
 //!
-//! | Call | Result |
-//! |---|---|
-//! | `min_ignore_nan_kernel A`, `max_ignore_nan_kernel A` | the least or the greatest present row of numbers or truth values, or `none` |
-//! | `min_max_ignore_nan_kernel A` | both |
-//! | `min_propagate_nan_kernel A`, and so of `max` and `min_max` | the results of the calls with `ignore` |
-//! | `slice_min_ignore_nan_kernel A` and so on | the extremes of the stored numbers of A, including those of null rows |
-//! | `bytes_min_ignore_nan_kernel A`, `text_min_ignore_nan_kernel A` and so on | the extremes of byte strings, or of texts as bytes |
+//! - `min_ignore_nan_kernel A`, `max_ignore_nan_kernel A`: the least or the greatest present row of
+//!   numbers or truth values, or `none`
+//! - `min_max_ignore_nan_kernel A`: both
+//! - `min_propagate_nan_kernel A`, and so of `max` and `min_max`: the results of the calls with
+//!   `ignore`
+//! - `slice_min_ignore_nan_kernel A` and so on: the extremes of the stored numbers of A, including
+//!   those of null rows
+//! - `bytes_min_ignore_nan_kernel A`, `text_min_ignore_nan_kernel A` and so on: the extremes of
+//!   byte strings, or of texts as bytes
 
 ghost use Rattle.polars_arrays_nested.specs.GoodParts.{IsGood};
 

@@ -2,7 +2,7 @@
 //! arrays of any kind.
 //!
 //! An array is an operand by its name, and is borrowed. Sums are in `recorded_arithmetic`. Each
-//! function appends its result to one text, which the function `answer` creates.
+//! function appends its result to one text, which the function `answer` begins.
 #![tactic(auto)]
 
 ghost use Rattle.recorded_text.specs.Cases.{HasGoodArrays};

@@ -1,9 +1,8 @@
 //! Places of the best byte string of an array. A PREFERENCE is `less` or `greater`.
 //!
-//! | Call | Result |
-//! |---|---|
-//! | `best_place PREFERENCE A` | the index of the first best present row, or `none` if no row is present |
-//! | `best_string PREFERENCE A` | its bytes |
+//! - `best_place PREFERENCE A`: the index of the first best present row, or `none` if no row is
+//!   present
+//! - `best_string PREFERENCE A`: its bytes
 
 ghost use Rattle.polars_arrays_nested.specs.GoodParts.{IsGood};
 ghost use Rattle.recorded_text.specs.Cases.{HasGoodArrays};

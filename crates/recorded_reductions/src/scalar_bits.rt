@@ -1,9 +1,7 @@
 //! Operators on the bits of two scalars.
 //!
-//! | Call | Result |
-//! |---|---|
-//! | `bit_and TYPE NUMBER NUMBER`, and so of `or` and `xor` | a number |
-//! | `bit_and bool TRUTH TRUTH`, and so of `or` and `xor` | a truth value |
+//! - `bit_and TYPE NUMBER NUMBER`, and so of `or` and `xor`: a number
+//! - `bit_and bool TRUTH TRUTH`, and so of `or` and `xor`: a truth value
 
 use crate::calls::Join;
 use polars_arrays_flat::boolean::BooleanArray;

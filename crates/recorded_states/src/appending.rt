@@ -1,11 +1,11 @@
 //! Clones of arrays, appended to one new state in one call.
 //!
-//! | Call | Result |
-//! |---|---|
-//! | `append_all_numbers TYPE MIN MAX A..` | the state of the numbers from MIN to MAX, in the form of `seen` |
-//! | `append_all_truths A..` | the state of truth values |
-//! | `append_all_keys V A..` | the state of the keys of the entries V |
-//! | `stored_numbers TYPE MIN MAX A..`, and so of `truths` and `keys` | the stored values of the array that the state is finalised to, including that of its null |
+//! - `append_all_numbers TYPE MIN MAX A..`: the state of the numbers from MIN to MAX, in the form
+//!   of `seen`
+//! - `append_all_truths A..`: the state of truth values
+//! - `append_all_keys V A..`: the state of the keys of the entries V
+//! - `stored_numbers TYPE MIN MAX A..`, and so of `truths` and `keys`: the stored values of the
+//!   array that the state is finalised to, including that of its null
 
 ghost use Rattle.std.specs.Prelude.{All, IsTrue};
 ghost use Rattle.polars_compute_slots.specs.State.{are_within, range_of};
@@ -116,7 +116,8 @@ fn copy_all<S: RecordedState>(
 // Returns whether a state accepts an array.
 fn is_accepted<S: RangedUniqueKernel>(state: &S, array: &S::Array) -> bool
     ensures taken { IsTrue result → IsTrue (S.is_taken array.now) }
-    ensures within { IsTrue result → IsTrue (are_within (range_of (S.state state.now)) (S.fed array.now)) }
+    ensures within { IsTrue result
+        → IsTrue (are_within (range_of (S.state state.now)) (S.fed array.now)) }
 {
     state.accepts(array)
 }

@@ -1,14 +1,12 @@
 //! Conditions of other calls. The result is `true` or `false`.
 //!
-//! | Call | True if |
-//! |---|---|
-//! | `range_fits TYPE MIN MAX` | there is a state of these numbers |
-//! | `keys_fit V` | there is a state of the keys of these entries |
-//! | `accepts_numbers TYPE MIN MAX A` | a state of these numbers accepts the array |
-//! | `accepts_truths A` | a state of truth values accepts the array |
-//! | `accepts_keys V A` | a state of the keys of these entries accepts the array |
-//! | `same_range_numbers TYPE MIN MAX MIN MAX` | two states of these numbers have one range |
-//! | `same_range_keys V W` | two states of the keys of these entries have one range |
+//! - `range_fits TYPE MIN MAX`: whether there is a state of these numbers
+//! - `keys_fit V`: whether there is a state of the keys of these entries
+//! - `accepts_numbers TYPE MIN MAX A`: whether a state of these numbers accepts the array
+//! - `accepts_truths A`: whether a state of truth values accepts the array
+//! - `accepts_keys V A`: whether a state of the keys of these entries accepts the array
+//! - `same_range_numbers TYPE MIN MAX MIN MAX`: whether two states of these numbers have one range
+//! - `same_range_keys V W`: whether two states of the keys of these entries have one range
 
 ghost use Rattle.recorded_text.specs.Cases.{HasGoodArrays};
 

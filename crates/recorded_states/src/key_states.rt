@@ -1,10 +1,12 @@
 //! Calls on states of the keys of a dictionary.
 //!
-//! | Call | Result |
-//! |---|---|
-//! | `key_state V MIN MAX A..` | the state over the entries V, in the form of `seen`, after its state of keys was replaced by one of the numbers from MIN to MAX, and the arrays of type `u32` were appended |
-//! | `key_state_accepts V MIN MAX A` | whether that state accepts the dictionary array A |
-//! | `ended_keys V A..` | the type of the array to which a state over V with the arrays appended is finalised; after ` \| `, another state over V, in the form of `seen`, to which that array was appended |
+//! - `key_state V MIN MAX A..`: the state over the entries V, in the form of `seen`, after its
+//!   state of keys was replaced by one of the numbers from MIN to MAX, and the arrays of type `u32`
+//!   were appended
+//! - `key_state_accepts V MIN MAX A`: whether that state accepts the dictionary array A
+//! - `ended_keys V A..`: the type of the array to which a state over V with the arrays appended is
+//!   finalised; after ` | `, another state over V, in the form of `seen`, to which that array was
+//!   appended
 
 ghost use Rattle.polars_arrays_nested.specs.GoodParts.{IsGood};
 ghost use Rattle.polars_arrays_nested.specs.declared.any_array.AnyArray.{Dictionary};

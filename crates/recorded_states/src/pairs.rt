@@ -1,13 +1,16 @@
 //! Two states with arrays appended, separate and merged. Each has the text of `seen`. Parts are
 //! separated by ` | `.
 //!
-//! | Call | Result |
-//! |---|---|
-//! | `state_numbers TYPE MIN MAX A.. \| B..` | the number of rows read of each array before the bar; those of the arrays after it; the state of the arrays before the bar; that of the arrays after it; and the first state with the second merged into it |
-//! | `state_empty TYPE A.. \| B..` | the numbers of rows and the three states, for states of no numbers |
-//! | `state_truths A.. \| B..` | the three states, of truth values |
-//! | `state_keys V A.. \| W B..` | the three states, of keys of the entries V and W, and the second with the first merged into it |
-//! | `state_keys_rows V A.. \| W B..` | the entries that the first state names with the second merged into it |
+//! - `state_numbers TYPE MIN MAX A.. | B..`: the number of rows read of each array before the bar;
+//!   those of the arrays after it; the state of the arrays before the bar; that of the arrays after
+//!   it; and the first state with the second merged into it
+//! - `state_empty TYPE A.. | B..`: the numbers of rows and the three states, for states of no
+//!   numbers
+//! - `state_truths A.. | B..`: the three states, of truth values
+//! - `state_keys V A.. | W B..`: the three states, of keys of the entries V and W, and the second
+//!   with the first merged into it
+//! - `state_keys_rows V A.. | W B..`: the entries that the first state names with the second merged
+//!   into it
 
 ghost use Rattle.recorded_text.specs.Cases.{HasGoodArrays};
 

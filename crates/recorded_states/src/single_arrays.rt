@@ -1,10 +1,8 @@
 //! The distinct rows of one array of truth values.
 //!
-//! | Call | Result |
-//! |---|---|
-//! | `unique A` | the rows |
-//! | `n_unique A` | the number of them |
-//! | `n_unique_non_null A` | the number of present ones |
+//! - `unique A`: the rows
+//! - `n_unique A`: the number of them
+//! - `n_unique_non_null A`: the number of present ones
 
 ghost use Rattle.recorded_text.specs.Cases.{HasGoodArrays};
 

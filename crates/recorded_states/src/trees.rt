@@ -1,13 +1,18 @@
 //! Trees of states, in postfix notation: leaves of some words each, and `+`, which joins the two
 //! trees before it.
 //!
-//! | Call | A leaf | Result |
-//! |---|---|---|
-//! | `merge_tree_numbers TYPE MIN MAX TREE` | A: a state of the numbers from MIN to MAX, to which A is appended | the states merged, in the form of `seen` |
-//! | `merge_tree_truths TREE` | A: a state of truth values, to which A is appended | the states merged |
-//! | `merge_tree_keys TREE` | V A: a state of the keys of the entries V, to which A is appended | the states merged |
-//! | `one_range_numbers TYPE TREE` | MIN MAX: a new state of these numbers | whether all leaves have one range |
-//! | `one_range_keys TREE` | V: a new state of the keys of these entries | whether all leaves have one range |
+//! The states merged, in the form of `seen`:
+//!
+//! - `merge_tree_numbers TYPE MIN MAX TREE`; a leaf A is a state of the numbers from MIN to MAX, to
+//!   which A is appended
+//! - `merge_tree_truths TREE`; a leaf A is a state of truth values, to which A is appended
+//! - `merge_tree_keys TREE`; a leaf V A is a state of the keys of the entries V, to which A is
+//!   appended
+//!
+//! Whether all leaves have one range:
+//!
+//! - `one_range_numbers TYPE TREE`; a leaf MIN MAX is a new state of these numbers
+//! - `one_range_keys TREE`; a leaf V is a new state of the keys of these entries
 
 ghost use Rattle.recorded_text.specs.Cases.{HasGoodArrays};
 

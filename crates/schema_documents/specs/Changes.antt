@@ -43,7 +43,7 @@ abbrev pub has_words : List (List ℕ) → Bool
 has_words [] = false
 has_words (word ∷ more) = true
 
--- words are written behind a text, and it is known whether there are any
+-- words are written after a text, and it is known whether there are any
 pub record AreJoined (between before : List ℕ) (words : List (List ℕ)) (text : List ℕ) (some : Bool)
     : Type 0 where
   pub text_is : text ≡ before ++ joined between words

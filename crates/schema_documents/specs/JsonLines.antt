@@ -2,7 +2,7 @@
 --
 -- {"path":"a","documents":2,"null":0,"missing":0,"truth_value":0,"text":0,"object":0,"array":1,
 -- "number":1,"distinct":1,"least":"7","greatest":"7"}
--- Where lines may be passed over, the member "skipped" stands behind "documents".
+-- Where lines may be passed over, the member "skipped" stands after "documents".
 use Rattle.std.specs.Fmt.{decimal}
 use Rattle.std.specs.List.{flat_map}
 use Rattle.std.specs.Prelude.{ℕ, Bool, if◌then◌else◌, List, [], ◌++◌, length, codes, option_map}

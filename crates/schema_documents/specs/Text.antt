@@ -9,11 +9,11 @@ use Rattle.schema_documents.specs.Grid.{header, row_of}
 use Rattle.schema_paths.specs.declared.read.DocumentSchema.{DocumentSchema}
 use Rattle.schema_report.specs.Aligned.{aligned}
 
--- what stands behind the number of documents
+-- what stands after the number of documents
 abbrev pub documents_word : ℕ → List ℕ
 documents_word count = if count == 1 then codes " document, " else codes " documents, "
 
--- what stands behind the number of paths
+-- what stands after the number of paths
 abbrev pub paths_word : ℕ → List ℕ
 paths_word count = if count == 1 then codes " path\n" else codes " paths\n"
 

@@ -97,9 +97,9 @@ fn push_path_objects(
     Ok(())
 }
 
-/// Appends the differences between the paths of two files of documents, as JSON lines: an object for
-/// each difference, and one for the counts. Where lines may be passed over, the latter says how many
-/// of each file are.
+/// Appends the differences between the paths of two files of documents, as JSON lines: an object
+/// for each difference, and one for the counts. Where lines may be passed over, the latter says how
+/// many of each file are.
 pub fn push_document_objects(
     out: &mut Vec<u8>,
     left: &DocumentSchema,

@@ -94,7 +94,7 @@ fn push_path_lines(
 }
 
 /// Appends the differences between the paths of two files of documents, as text: a line for each
-/// difference, one for the counts, and one for each file of which lines are passed over.
+/// difference, one for the counts, and one for each file with lines passed over.
 pub fn push_document_lines(
     out: &mut Vec<u8>,
     files: Files<'_>,

@@ -6,7 +6,7 @@ ghost use Rattle.schema_documents.specs.Changes.{AreJoined, joined, kind_words, 
 use schema_paths::paths::PathSchema;
 use std::alloc::AllocError;
 
-/// Appends the word for a kind that has this many values, behind the text `between` if there are
+/// Appends the word for a kind that has this many values, after the text `between` if there are
 /// words before it. Appends nothing if there are no values. Returns whether there are words now.
 fn push_kind(
     out: &mut Vec<u8>,

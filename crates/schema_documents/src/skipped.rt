@@ -9,7 +9,7 @@ use diff_words::words::push_word;
 use schema_report::json_lines::push_number;
 use std::alloc::AllocError;
 
-/// Returns the words behind the number of lines.
+/// Returns the words after the number of lines.
 fn lines_word(count: usize) -> &'static [u8]
     ensures { result.now ≡ lines_word count }
 {

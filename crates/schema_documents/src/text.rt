@@ -14,7 +14,7 @@ use schema_paths::read::DocumentSchema;
 use schema_report::aligned::push_aligned;
 use std::alloc::{AllocError, Global};
 
-/// Returns what stands behind the number of documents.
+/// Returns what stands after the number of documents.
 fn documents_word(count: usize) -> &'static [u8]
     ensures { result.now ≡ documents_word count }
 {
@@ -25,7 +25,7 @@ fn documents_word(count: usize) -> &'static [u8]
     }
 }
 
-/// Returns what stands behind the number of paths.
+/// Returns what stands after the number of paths.
 fn paths_word(count: usize) -> &'static [u8]
     ensures { result.now ≡ paths_word count }
 {

@@ -19,7 +19,7 @@ own_number (string s) h = All-nil IsNumber
 own_number (array js) h = All-nil IsNumber
 own_number (object ms) h = All-nil IsNumber
 
--- what holds of all elements holds of the first, and of those behind it
+-- what holds of all elements holds of the first, and of those after it
 first_of : {A : Type 0} (P : A → Type 0) (x : A) (xs : List A) → All P (x ∷ xs) → P x
 first_of P x xs h = h 0 x (omega arith)
 

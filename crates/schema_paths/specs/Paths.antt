@@ -1,7 +1,7 @@
 -- The schemas of the paths of documents.
 --
 -- In {"a": 7} and {"b": 1, "a": [8, 9]} the path a has a number, 7, and an array, and is missing in
--- no document. The path a[] has two numbers, of which 8 is the least, and is missing in one
+-- no document. The path a[] has two numbers, 8 the least of them, and is missing in one
 -- document. So a and a[] do not have the same kinds of values. In {"a": [9], "c": [7]} the paths
 -- a[] and c[] do, one number each, and so do a and c.
 use Rattle.std.specs.List.{count_by}

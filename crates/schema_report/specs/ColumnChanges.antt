@@ -61,7 +61,8 @@ column_lines files left right =
 unfoldable pub kind_object : List ℕ → Kind → Kind → List ℕ
 kind_object name left right =
     codes "{\"kind\":\"type\",\"column\":" ++ json_string name
-    ++ codes ",\"left\":\"" ++ kind_word left ++ codes "\",\"right\":\"" ++ kind_word right ++ codes "\"}\n"
+    ++ codes ",\"left\":\"" ++ kind_word left ++ codes "\",\"right\":\"" ++ kind_word right
+    ++ codes "\"}\n"
 
 -- the members of the object of the counts
 unfoldable pub counts_members : SchemaCounts → List ℕ

@@ -27,7 +27,9 @@ head_members s = codes "{\"column\":" ++ json_string s.name.items
 -- the members with its counts
 unfoldable pub count_members : ColumnSchema → List ℕ
 count_members s =
-    codes "\",\"rows\":" ++ decimal s.rows ++ codes ",\"null\":" ++ decimal s.nulls ++ codes ",\"missing\":" ++ decimal s.missing ++ codes ",\"distinct\":" ++ count_member s.distinct
+    codes "\",\"rows\":" ++ decimal s.rows ++ codes ",\"null\":" ++ decimal s.nulls
+    ++ codes ",\"missing\":" ++ decimal s.missing ++ codes ",\"distinct\":"
+    ++ count_member s.distinct
 
 -- the members with its least and its greatest value
 unfoldable pub end_members : ColumnSchema → List ℕ

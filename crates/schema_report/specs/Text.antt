@@ -8,11 +8,11 @@ use Rattle.schema_columns.specs.declared.column.ColumnSchema.{ColumnSchema}
 use Rattle.schema_report.specs.Aligned.{aligned}
 use Rattle.schema_report.specs.Grid.{header, row_of}
 
--- what stands behind the number of rows
+-- what stands after the number of rows
 abbrev pub rows_word : ℕ → List ℕ
 rows_word count = if count == 1 then codes " row, " else codes " rows, "
 
--- what stands behind the number of columns
+-- what stands after the number of columns
 abbrev pub columns_word : ℕ → List ℕ
 columns_word count = if count == 1 then codes " column\n" else codes " columns\n"
 

@@ -48,7 +48,7 @@ fn widths_of(alloc: Global, table: &Table) -> Result<Vec<usize>, AllocError>
     Ok(widths)
 }
 
-/// Appends blanks behind a text of `len` characters, up to a width.
+/// Appends blanks after a text of `len` characters, up to a width.
 fn push_blanks(out: &mut Vec<u8>, len: usize, width: usize) -> Result<(), AllocError>
     ensures { OnOk result (out.new.items ≡ out.old.items ++ replicate (width - len) 32) }
 {
@@ -103,8 +103,8 @@ fn push_line(out: &mut Vec<u8>, table: &Table, widths: &[usize], i: usize) -> Re
     Ok(())
 }
 
-/// Appends the rows of a table in a line each, with blanks behind the cells of each column up to
-/// its longest one, and two more before the next column.
+/// Appends the rows of a table in a line each. After a cell come blanks up to the longest cell of
+/// its column, and two more before the next column.
 pub fn push_aligned(alloc: Global, out: &mut Vec<u8>, table: &Table) -> Result<(), AllocError>
     ensures { OnOk result
         (out.new.items ≡ out.old.items ++ aligned table.now.width table.now.rows) }

@@ -67,7 +67,7 @@ fn is_changed<S: SchemaPart>(others: &[S], part: &S) -> bool
     }
 }
 
-/// Returns how many parts are alone.
+/// Returns how many of `parts` have no part of their name among the others.
 fn count_alone<S: SchemaPart>(others: &[S], parts: &[S]) -> usize
     ensures { result ≡ count_by (is_alone S.name_of others.now) parts.now }
 {
@@ -80,7 +80,7 @@ fn count_alone<S: SchemaPart>(others: &[S], parts: &[S]) -> usize
     count
 }
 
-/// Returns how many parts have other kinds among the others.
+/// Returns how many of `parts` have other kinds than the first part of their name among the others.
 fn count_changed<S: SchemaPart>(others: &[S], parts: &[S]) -> usize
     ensures { result ≡ count_by (is_changed S.name_of S.same_kinds others.now) parts.now }
 {
@@ -93,7 +93,8 @@ fn count_changed<S: SchemaPart>(others: &[S], parts: &[S]) -> usize
     count
 }
 
-/// Returns the number of parts that differ in each way, and of those that are the same.
+/// Returns how many parts, matched by name, have other kinds (`changed`), are in the left schema
+/// alone (`removed`), are in the right one alone (`added`), and are the same.
 pub fn counts_of<S: SchemaPart>(left: &[S], right: &[S]) -> SchemaCounts
     ensures { result ≡ counts_of S.name_of S.same_kinds left.now right.now }
 {

@@ -60,7 +60,7 @@ impl ChangeForm<ColumnSchema> for ColumnObjects {
     }
 }
 
-/// Appends the object of the counts without its end, so that members may follow.
+/// Appends the object of the counts without its closing brace, so that members may follow.
 #[tactic(auto, unfolding(crate::specs::ColumnChanges::counts_members))]
 pub fn push_counts_members(out: &mut Vec<u8>, counts: SchemaCounts) -> Result<(), AllocError>
     ensures { OnOk result (out.new.items ≡ out.old.items ++ counts_members counts) }

@@ -13,14 +13,14 @@ use polars_arrays_bits::error::ComputeError;
 use schema_columns::column::ColumnSchema;
 use std::alloc::{AllocError, Global};
 
-/// Returns what stands behind the number of rows.
+/// Returns what stands after the number of rows.
 fn rows_word(count: usize) -> &'static [u8]
     ensures { result.now ≡ rows_word count }
 {
     if count == 1 { b" row, " } else { b" rows, " }
 }
 
-/// Returns what stands behind the number of columns.
+/// Returns what stands after the number of columns.
 fn columns_word(count: usize) -> &'static [u8]
     ensures { result.now ≡ columns_word count }
 {

@@ -20,7 +20,7 @@ use Rattle.schema_values.specs.Told.{TellsNothing, Told}
 abbrev pub IsNumber : List ℕ → Type 0
 IsNumber text = is_number text ≡ true
 
--- a number whose exponent has at most 30 digits behind its zeros
+-- a number whose exponent has at most 30 digits after its zeros
 pub record IsNarrow (text : List ℕ) : Type 0 where
   pub number : is_number text ≡ true
   pub narrow : ¬ HasWideExponent text

@@ -106,7 +106,7 @@ sides_of left left_lines right right_lines = record {
   colored = false;
 }
 
--- such sides are those of two texts that have these rows behind the header
+-- such sides are those of two texts that have these rows after the header
 pub are_sides :
     (unique : Bool) (left_text right_text : List ℕ) (left right : List (List (List ℕ)))
     (left_lines right_lines : Vec ℕ Global)

@@ -52,7 +52,7 @@ use Rattle.worked_examples.proofs.ExampleSides.{sides}
 config-comma : (config_of commas).delimiter ≡ 44
 config-comma = refl
 
--- a quote that opens behind a comma leaves the reader within quotes
+-- a quote that opens after a comma leaves the reader within quotes
 state-behind_quote : state_after (config_of commas) st.StartRecord (codes "a,\"b") ≡ st.InQuoted
 unfolding state_after
 state-behind_quote = refl

@@ -1,6 +1,6 @@
 //! Columns that own the buffers of random rows, and lend them as arrays.
 //!
-//! There are other rows before and behind those of a column, and something is stored under nulls.
+//! There are other rows before and after those of a column, and something is stored under nulls.
 
 use super::chance::Chance;
 use super::row::{some_row, some_rows, Int, Row, Type};
@@ -102,7 +102,7 @@ enum Store {
 /// A column with its buffers.
 pub struct Column {
     store: Store,
-    /// All rows, those before and behind the window too.
+    /// All rows, those before and after the window too.
     all: usize,
     present: Option<(Vec<u8>, usize)>,
     first: usize,
@@ -112,10 +112,10 @@ pub struct Column {
 impl Column {
     /// Makes a column of rows.
     pub fn of(kind: &Type, rows: &[Row], chance: &mut Chance) -> Column {
-        let (before, behind) = (*chance.one_of(&[0, 0, 1, 5, 9]), *chance.one_of(&[0, 0, 3]));
+        let (before, after) = (*chance.one_of(&[0, 0, 1, 5, 9]), *chance.one_of(&[0, 0, 3]));
         let mut all = some_rows(kind, chance, before);
         all.extend_from_slice(rows);
-        all.extend(some_rows(kind, chance, behind));
+        all.extend(some_rows(kind, chance, after));
         let bits: Vec<_> = all
             .iter()
             .map(|row| is_present(row, kind, chance))
@@ -167,7 +167,7 @@ fn under(row: &Row, kind: &Type, chance: &mut Chance) -> Row {
     stored
 }
 
-/// Packs bits from a random place on, with other bits before and behind.
+/// Packs bits from a random place on, with other bits before and after.
 fn packed(bits: &[bool], chance: &mut Chance) -> (Vec<u8>, usize) {
     let first = *chance.one_of(&[0, 0, 3, 7, 8, 13]);
     let mut bytes: Vec<u8> = (0..(first + bits.len()) / 8 + 1)
@@ -241,7 +241,7 @@ impl Store {
                 Array::booleans(Bitmap::new(bytes, *first, rows).unwrap())
             }
             Store::Numbers(numbers) => with_numbers!(numbers, it => Array::numbers(it)),
-            Store::Decimals(numbers) => Array::decimals(numbers, 38, 2),
+            Store::Decimals(numbers) => Array::decimals(numbers, 38, 2).unwrap(),
             Store::Texts(offsets, bytes) => {
                 with_offsets!(offsets, it => Array::texts(it, bytes).unwrap())
             }
@@ -315,7 +315,7 @@ fn views(rows: &[Row], present: &[bool], chance: &mut Chance) -> (Vec<u128>, Vec
     (views, buffers)
 }
 
-/// Returns the offsets and the bytes of byte strings, behind `before` other bytes.
+/// Returns the offsets and the bytes of byte strings, after `before` other bytes.
 fn strings(is_large: bool, before: usize, rows: &[Row]) -> (Offsets, Vec<u8>) {
     let strings: Vec<_> = rows.iter().map(bytes_of).collect();
     let offsets = Offsets::of(is_large, before, strings.iter().map(Vec::len));

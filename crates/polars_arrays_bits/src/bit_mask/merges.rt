@@ -153,9 +153,9 @@ impl BitMask<'_> {
         q.merge(alloc, l, r, MergeNe)
     }
 
-    /// Returns what `merge_eq` does, with equality of the values given as truth values. They are
-    /// joined with the masks while they are packed, without a bitmap of their own. The error is
-    /// `Memory`.
+    /// Returns what `merge_eq` returns, where `q` has the rows with equal values as truth values
+    /// that are not packed yet. They are joined with the masks while they are packed, without a
+    /// bitmap of their own. The error is `Memory`.
     pub fn merge_eq_values<V: TruthValues>(
         alloc: Global,
         q: &V,
@@ -170,8 +170,8 @@ impl BitMask<'_> {
         l.merge_placed(alloc, MergeEq, Packed { values: q }, r)
     }
 
-    /// Returns what `merge_ne` does, with inequality of the values given as truth values. The error
-    /// is `Memory`.
+    /// Returns what `merge_ne` returns, where `q` has the rows with unequal values as truth values
+    /// that are not packed yet. The error is `Memory`.
     pub fn merge_ne_values<V: TruthValues>(
         alloc: Global,
         q: &V,

@@ -25,8 +25,8 @@ pub(crate) fn apply_pairs<T: NativeType, O: NumberOperation<T>>(
     rhs: PrimitiveArray<T>,
 ) -> Result<PrimitiveArray<T>, ComputeError>
     requires { length lhs.values ≡ length rhs.values }
-    ensures answers { MatchResult result (MapsPairs (Gives T.value T.low (bit_len T.width) O.meaning) lhs rhs)
-        IsMemory }
+    ensures answers { MatchResult result
+        (MapsPairs (Gives T.value T.low (bit_len T.width) O.meaning) lhs rhs) IsMemory }
     ensures owned { IfOk result (λ answer. IsTrue answer.owned) }
 {
     prim_binary_in_place(alloc, lhs, rhs, |x, y| O::apply(x, y))

@@ -16,20 +16,20 @@ pub trait DivisorNumber: NativeType {
     // The divisor.
     ghost divisor: { Self.Divisor → ℤ };
 
-    /// Prepares the number as a divisor, or returns `None` if it is 0, 1 or -1.
+    /// Returns the number as a prepared divisor, or `None` if it is 0, 1 or -1.
     fn to_divisor(self) -> Option<Self::Divisor>
         ensures some { IsSome result ↔ (2 ≤ unsigned_abs (Self.value self)) }
         ensures same { IfSome result (λ kept. divisor kept ≡ Self.value self) };
 
-    /// Divides by a prepared divisor, rounding down.
+    /// Returns the quotient by a prepared divisor, rounded down.
     fn floor_by(self, by: &Self::Divisor) -> Self
         ensures { Self.value result ≡ floor_quotient (Self.value self) (divisor by.now) };
 
-    /// Divides by a prepared divisor, rounding toward 0.
+    /// Returns the quotient by a prepared divisor, rounded toward 0.
     fn truncated_by(self, by: &Self::Divisor) -> Self
         ensures { Self.value result ≡ truncated_quotient (Self.value self) (divisor by.now) };
 
-    /// States that a number of the type lies within its bounds.
+    /// Law: a number lies between the least and the greatest one of its type.
     fn law_ends(self)
         ensures least { Self.low ≤ℤ Self.value self }
         ensures greatest { Self.value self ≤ℤ Self.high };

@@ -46,8 +46,8 @@ pub trait PrimitiveArithmeticKernelImpl: PlNumArithmetic {
         alloc: Global,
         lhs: PrimitiveArray<Self>,
     ) -> Result<PrimitiveArray<Self>, ComputeError>
-        ensures answers { MatchResult result (IsAnswer Self.value Self.low (bit_len Self.width) negation_of lhs)
-            IsMemory }
+        ensures answers { MatchResult result
+            (IsAnswer Self.value Self.low (bit_len Self.width) negation_of lhs) IsMemory }
         ensures owned { IfOk result (λ answer. IsTrue answer.owned) }
         ensures in_place { IsTrue lhs.owned → IsOk result }
     {
@@ -61,8 +61,8 @@ pub trait PrimitiveArithmeticKernelImpl: PlNumArithmetic {
         rhs: PrimitiveArray<Self>,
     ) -> Result<PrimitiveArray<Self>, ComputeError>
         requires { length lhs.values ≡ length rhs.values }
-        ensures answers { MatchResult result (IsResult Self.value Self.low (bit_len Self.width) sum_of lhs rhs)
-            IsMemory }
+        ensures answers { MatchResult result
+            (IsResult Self.value Self.low (bit_len Self.width) sum_of lhs rhs) IsMemory }
         ensures owned { IfOk result (λ answer. IsTrue answer.owned) }
     {
         apply_pairs::<Self, Sum>(alloc, lhs, rhs)
@@ -132,8 +132,8 @@ pub trait PrimitiveArithmeticKernelImpl: PlNumArithmetic {
         rhs: PrimitiveArray<Self>,
     ) -> Result<PrimitiveArray<Self>, ComputeError>
         requires { length lhs.values ≡ length rhs.values }
-        ensures answers { MatchResult result (IsResult Self.value Self.low (bit_len Self.width) modulo lhs rhs)
-            IsMemory }
+        ensures answers { MatchResult result
+            (IsResult Self.value Self.low (bit_len Self.width) modulo lhs rhs) IsMemory }
         ensures owned { IfOk result (λ answer. IsTrue answer.owned) }
     {
         divide_pairs::<Self, Modulus>(alloc, lhs, rhs)
@@ -208,7 +208,8 @@ pub trait PrimitiveArithmeticKernelImpl: PlNumArithmetic {
         ensures answers { MatchResult result
             (IsAnswer Self.value Self.low (bit_len Self.width)
             (λ a. floor_division a (Self.value rhs)) lhs) IsMemory }
-        ensures owned { IfOk result (λ answer. answer.owned ≡ (lhs.owned || is_nonzero (Self.value rhs))) }
+        ensures owned { IfOk result
+            (λ answer. answer.owned ≡ (lhs.owned || is_nonzero (Self.value rhs))) }
     {
         divide_by::<Self, FloorQuotient>(alloc, lhs, rhs)
     }
@@ -236,7 +237,8 @@ pub trait PrimitiveArithmeticKernelImpl: PlNumArithmetic {
         ensures answers { MatchResult result
             (IsAnswer Self.value Self.low (bit_len Self.width)
             (λ a. truncated_division a (Self.value rhs)) lhs) IsMemory }
-        ensures owned { IfOk result (λ answer. answer.owned ≡ (lhs.owned || is_nonzero (Self.value rhs))) }
+        ensures owned { IfOk result
+            (λ answer. answer.owned ≡ (lhs.owned || is_nonzero (Self.value rhs))) }
     {
         divide_by::<Self, TruncatedQuotient>(alloc, lhs, rhs)
     }
@@ -264,7 +266,8 @@ pub trait PrimitiveArithmeticKernelImpl: PlNumArithmetic {
         ensures answers { MatchResult result
             (IsAnswer Self.value Self.low (bit_len Self.width) (λ a. modulo a (Self.value rhs)) lhs)
             IsMemory }
-        ensures owned { IfOk result (λ answer. answer.owned ≡ (lhs.owned || is_nonzero (Self.value rhs))) }
+        ensures owned { IfOk result
+            (λ answer. answer.owned ≡ (lhs.owned || is_nonzero (Self.value rhs))) }
     {
         divide_by::<Self, Modulus>(alloc, lhs, rhs)
     }

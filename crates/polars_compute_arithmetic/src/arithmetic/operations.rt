@@ -42,7 +42,8 @@ pub(crate) trait NumberDivision<T: DivisorNumber>: NumberOperation<T> {
         ensures { Gives T.value T.low (bit_len T.width) Self.meaning x rhs result };
 
     // Division by 0 has no result.
-    ghost division_law: { (a b : ℤ) → Self.NumberOperation.meaning a b ≡ unless_zero Self.divided a b };
+    ghost division_law: { (a b : ℤ) → Self.NumberOperation.meaning a b
+        ≡ unless_zero Self.divided a b };
 }
 
 /// Addition.
