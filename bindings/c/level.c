@@ -1,7 +1,7 @@
 /* Kernels for two levels of processors. The library holds the proved kernels twice, compiled for
  * x86-64-v2 and for x86-64-v3 (AVX2, BMI2, FMA ..), and which of the two run is chosen once.
  *
- * packaging/make_library puts the level behind the names of their exports. The functions below have
+ * packaging/make_library puts the level after the names of their exports. The functions below have
  * the names of parts.h, and hand each call on as it is. */
 #include "shim.h"
 
@@ -32,9 +32,10 @@ __typeof__(dunkelva_state_merge) dunkelva_state_merge_v2, dunkelva_state_merge_v
 __typeof__(dunkelva_state_count) dunkelva_state_count_v2, dunkelva_state_count_v3;
 __typeof__(dunkelva_state_list) dunkelva_state_list_v2, dunkelva_state_list_v3;
 
-/* Whether the kernels for x86-64-v3 run. It is written while the library is loaded, or before
- * `main` where it is linked statically: before there is a call in any thread. A constructor that
- * ran even earlier finds the other level, which every served processor has. */
+/* Whether the kernels for x86-64-v3 run. It is written once, while the library is loaded, or before
+ * `main` where it is linked statically. Calls come later, in whatever thread, so they need no lock.
+ * A constructor that ran even earlier finds the other level, which all processors that are served
+ * have. */
 static bool takes_v3 = false;
 
 /* Reads what the processor has, and what the system saves of it. */
