@@ -73,22 +73,26 @@ static size_t room_for(enum form form, int64_t rows) {
   return (size_t)(form == AS_BITS ? bytes_for_bits(rows) : rows);
 }
 
+#ifdef __SSE2__
+/* Writes 16 bytes, 0 or 1, of two bytes of a word, of which each comes eight times. */
+static void spread_bytes(__m128i eight_times, uint8_t *bytes) {
+  const __m128i places = _mm_set1_epi64x((int64_t)0x8040201008040201U);
+  __m128i truths = _mm_min_epu8(_mm_and_si128(eight_times, places), _mm_set1_epi8(1));
+  _mm_storeu_si128((__m128i *)(void *)bytes, truths);
+}
+#endif
+
 /* Writes a byte, 0 or 1, for each bit of a word. */
 static void spread_word(uint64_t word, uint8_t *bytes) {
 #ifdef __SSE2__
-  const __m128i places = _mm_set1_epi64x((int64_t)0x8040201008040201U);
-  const __m128i one = _mm_set1_epi8(1);
   __m128i bits = _mm_set_epi64x(0, (int64_t)word);
   __m128i twice = _mm_unpacklo_epi8(bits, bits); /* each byte of the word two times */
   __m128i low = _mm_unpacklo_epi16(twice, twice);
   __m128i high = _mm_unpackhi_epi16(twice, twice);
-  /* eight times each, two bytes of the word in one vector */
-  const __m128i all[4] = {_mm_unpacklo_epi32(low, low), _mm_unpackhi_epi32(low, low),
-                          _mm_unpacklo_epi32(high, high), _mm_unpackhi_epi32(high, high)};
-  for (size_t k = 0; k < 4; k++) {
-    __m128i truths = _mm_min_epu8(_mm_and_si128(all[k], places), one);
-    _mm_storeu_si128((__m128i *)(void *)(bytes + 16 * k), truths);
-  }
+  spread_bytes(_mm_unpacklo_epi32(low, low), bytes);
+  spread_bytes(_mm_unpackhi_epi32(low, low), bytes + 16);
+  spread_bytes(_mm_unpacklo_epi32(high, high), bytes + 32);
+  spread_bytes(_mm_unpackhi_epi32(high, high), bytes + 48);
 #else
   for (int i = 0; i < 64; i++) {
     bytes[i] = (uint8_t)(word >> i & 1);
