@@ -254,13 +254,11 @@ static ran run(const pair *of, int first, int second, int is_piped) {
 
 /* ---- what is asked of runs */
 
-/* Says whether nothing is said but that no document has a part at a path of --only, or that no column but the key is
-   compared. */
+/* Says whether nothing is said but that no document has a part at a path of --only. */
 static int only_warns(const char *said) {
     static const char *const warning = "dunkelva: warning: --only: no document has a part at ";
-    static const char *const alone = "dunkelva: warning: no column but the key is compared\n";
     for (; *said; said = strchr(said, '\n') + 1)
-        if ((!begins(said, warning) && !begins(said, alone)) || !strchr(said, '\n')) return 0;
+        if (!begins(said, warning) || !strchr(said, '\n')) return 0;
     return 1;
 }
 

@@ -385,24 +385,6 @@ def is_report(printed, pair, has_lines):
     return objects == wanted_objects
 
 
-KEYS_ALONE = b"dunkelva: warning: no column but the key is compared\n"
-
-
-def warned(pair):
-    """Returns the warning that a run over two files prints which ends well: that the key alone is
-    compared, where a file has other columns and the options do not ask for that."""
-    left, right, options = pair.left.names, pair.right.names, pair.options
-    keys = options["keys"]
-    asks = all(name in keys for name in options.get("only", [None]))
-    if not keys or asks or options.get("piped") is not None:
-        return b""
-    others = any(name not in keys for name in [*left, *right])
-    shared = any(
-        name in right and name not in keys and is_chosen(name, options) for name in left
-    )
-    return KEYS_ALONE if others and not shared else b""
-
-
 def is_right(ran, pair, has_lines=True):
     """Returns whether a run over two tables that can be compared did as it has to."""
     said = choice_fault(pair)
@@ -421,7 +403,7 @@ def is_right(ran, pair, has_lines=True):
     if said:
         return ran.status == 2 and ran.said.endswith(b" have the same key\n") and not ran.printed
     return (
-        ran.said == warned(pair)
+        not ran.said
         and ran.status == status_of(comparison_of(pair))
         and is_report(ran.printed, pair, has_lines)
     )

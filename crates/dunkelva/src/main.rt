@@ -17,7 +17,6 @@ mod files;
 mod hints;
 mod keys;
 mod kinds;
-mod lone_keys;
 mod names;
 mod near;
 mod only;
@@ -42,7 +41,6 @@ use crate::keys::keys_of;
 use crate::kinds::{
     hold_documents, refuse_document_options, refuse_table_options, refuse_two_formats,
 };
-use crate::lone_keys::warn_of_keys_alone;
 use crate::only::warn_of_unknown;
 use crate::outputs::refuse_own_target;
 use crate::parts::{part_of, part_of_rows, refuse_unsorted};
@@ -95,14 +93,11 @@ fn diff_tables(
         format: format_of(matches),
         colored: is_colored(rt, matches),
     };
-    let status = if matches.get_flag("sorted") {
+    if matches.get_flag("sorted") {
         refuse_unsorted(matches)?;
-        compare_named(rt, left, right, Task::Sorted(&options), target)?
-    } else {
-        compare_named(rt, left, right, Task::Tables(&options), target)?
-    };
-    warn_of_keys_alone(rt, &options.choice, options.csv, left, right);
-    Ok(status)
+        return compare_named(rt, left, right, Task::Sorted(&options), target);
+    }
+    compare_named(rt, left, right, Task::Tables(&options), target)
 }
 
 /// Compares two files of documents, writes the report to the target, and returns the exit status.
