@@ -5,13 +5,13 @@ ghost use Rattle.num_traits.specs.Laws.{bit_len};
 ghost use Rattle.arrow_calls.specs.Columns.{rows_lent};
 ghost use Rattle.arrow_calls.specs.Counts.{IsTrueCountsFault};
 ghost use Rattle.arrow_columns.specs.Counting.{counted_by};
-ghost use Rattle.polars_compute_bits.specs.Bitwise.{counted};
+ghost use Rattle.polars_compute_reductions.specs.Bitwise.{counted};
 
 use crate::columns::column;
 use crate::fault::Fault;
 use arrow_columns::counting::{Counting, count_bits};
 use arrow_parts::part::Part;
-use polars_compute_bits::bit_number::BitNumber;
+use polars_compute_reductions::bit_number::BitNumber;
 use std::alloc::Global;
 
 /// Writes a count of the bits of each row of a part's numbers, under the validity of the part. The

@@ -4,7 +4,7 @@ use Rattle.arrow_columns.specs.declared.counting.Counting.{Counting}
 use Rattle.arrow_columns.specs.declared.counting.Counting.TheVariants.{Ones, Zeros, LeadingOnes}
 use Rattle.arrow_columns.specs.declared.counting.Counting.TheVariants.{LeadingZeros, TrailingOnes}
 use Rattle.arrow_columns.specs.declared.counting.Counting.TheVariants.{TrailingZeros}
-use Rattle.polars_compute_bits.specs.Bitwise.{leading_run, trailing_run}
+use Rattle.polars_compute_reductions.specs.Bitwise.{leading_run, trailing_run}
 
 -- the number that a count gives for the bits of a number, the lowest bit first
 abbrev pub counted_by : Counting → List Bool → ℕ

@@ -4,10 +4,10 @@ use Rattle.std.specs.List.{list_all, list_any}
 use Rattle.arrow_columns.specs.declared.reducing.BitOperator.{BitOperator}
 use Rattle.arrow_columns.specs.declared.reducing.BitOperator.TheVariants.{And, Or, Xor}
 use Rattle.polars_arrays_flat.specs.Row.{Row}
-use Rattle.polars_arrays_folds.specs.Folds.{none_present}
+use Rattle.polars_compute_reductions.specs.Folds.{none_present}
 use Rattle.polars_arrays_numbers.specs.Wrapping.{wrapped}
-use Rattle.polars_compute_bits.specs.Bitwise.{is_odd}
-use Rattle.polars_compute_bits.specs.Sum.{total}
+use Rattle.polars_compute_reductions.specs.Bitwise.{is_odd}
+use Rattle.polars_compute_reductions.specs.Sum.{total}
 
 -- the sum of the present rows, wrapped to a type; None if no row is present
 abbrev pub sum_if_any : ℤ → ℕ → List Row → Option ℤ

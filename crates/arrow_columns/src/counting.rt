@@ -5,15 +5,15 @@ ghost use Rattle.num_traits.specs.Laws.{bit_len};
 ghost use Rattle.arrow_columns.specs.Counting.{counted_by};
 ghost use Rattle.polars_arrays_flat.specs.ArrayRows.{number_rows};
 ghost use Rattle.polars_arrays_flat.specs.StoredRows.{number_slots, rows_under};
-ghost use Rattle.polars_compute_bits.specs.Bitwise.{counted, number_bits};
+ghost use Rattle.polars_compute_reductions.specs.Bitwise.{counted, number_bits};
 
 use crate::column::Column;
 use crate::writing::{Computed, write};
 use polars_arrays_numbers::native_type::NativeType;
-use polars_compute_bits::bit_counts::{
+use polars_compute_reductions::bit_counts::{
     BitCount, LeadingOnes, LeadingZeros, Ones, TrailingOnes, TrailingZeros, Zeros,
 };
-use polars_compute_bits::bit_number::BitNumber;
+use polars_compute_reductions::bit_number::BitNumber;
 
 /// A count of some bits of a number.
 #[derive(Clone, Copy, PartialEq, Eq, Debug)]
@@ -36,7 +36,7 @@ struct Counts<'a, T, C> {
 impl<'a, T: NativeType, C: BitCount<T>> Computed<u32> for Counts<'a, T, C> {
     ghost use Rattle.std.specs.Prelude.{map, pos};
     ghost use Rattle.num_traits.specs.Laws.{bit_len};
-    ghost use Rattle.polars_compute_bits.specs.Bitwise.{number_bits};
+    ghost use Rattle.polars_compute_reductions.specs.Bitwise.{number_bits};
 
     ghost numbers = { λ counts. map (λ x. pos
         (C.amount (number_bits (bit_len T.width) (T.value x)))) counts.values.now };

@@ -4,17 +4,17 @@ ghost use Rattle.std.specs.Prelude.{◌≡◌, option_map};
 ghost use Rattle.num_traits.specs.Laws.{bit_len};
 ghost use Rattle.arrow_columns.specs.Reductions.{joins_bits, sum_if_any};
 ghost use Rattle.polars_arrays_flat.specs.ArrayRows.{number_rows};
-ghost use Rattle.polars_arrays_folds.specs.Folds.{folded_if_any};
-ghost use Rattle.polars_compute_bits.specs.Bitwise.{number_bits, reduced};
+ghost use Rattle.polars_compute_reductions.specs.Folds.{folded_if_any};
+ghost use Rattle.polars_compute_reductions.specs.Bitwise.{number_bits, reduced};
 
 use crate::column::Column;
 use num_traits::Zero;
-use polars_arrays_folds::fold::fold_under;
-use polars_arrays_folds::operator::Operator;
 use polars_arrays_numbers::native_type::NativeType;
-use polars_compute_bits::bit_number::BitNumber;
-use polars_compute_bits::bit_operators::{And, Or, Xor};
-use polars_compute_bits::sum::{Sum, WrappingAdd};
+use polars_compute_reductions::bit_number::BitNumber;
+use polars_compute_reductions::bit_operators::{And, Or, Xor};
+use polars_compute_reductions::fold::fold_under;
+use polars_compute_reductions::operator::Operator;
+use polars_compute_reductions::sum::{Sum, WrappingAdd};
 
 // Folds the present rows, or returns `None` if no row is present.
 fn reduce<T: NativeType, O: Operator<T>>(operator: &O, column: &Column<'_, T>) -> Option<T>

@@ -7,14 +7,14 @@ use Rattle.polars_arrays_flat.specs.Row.{Row, Null, Int, Truth, Bytes, Rows, Fie
 use Rattle.polars_arrays_flat.proofs.RowWindows.{row-under}
 use Rattle.polars_arrays_flat.specs.StoredRows.{row, kept, number_slots, rows_under}
 use Rattle.polars_arrays_flat.specs.Validity.{HasBits, is_present}
-use Rattle.polars_arrays_folds.specs.Folds.{folded, row_joined}
+use Rattle.polars_compute_reductions.specs.Folds.{folded, row_joined}
 use Rattle.polars_compare_extremes.specs.BestNumber.{best_of}
 use Rattle.polars_compare_extremes.specs.BestNumberLaws.{refuted}
 use Rattle.polars_compare_extremes.specs.Extremes.{FindsBest, NonePresent}
 use Rattle.polars_compare_extremes.specs.Places.{IsFirstPresent}
 use Rattle.polars_compare_extremes.specs.Preference.{Prefers}
-use Rattle.polars_compute_bits.proofs.Reductions.{AreNumbers, rows-numbers}
-use Rattle.polars_arrays_folds.proofs.FoldSteps.{length-rows, length-slots}
+use Rattle.polars_compute_reductions.proofs.Reductions.{AreNumbers, rows-numbers}
+use Rattle.polars_compute_reductions.proofs.FoldSteps.{length-rows, length-slots}
 
 -- each present row is a number
 number-at : (rows : List Row) (k : ℕ) → AreNumbers rows → k < length rows → row rows k ≢ Null → (v : ℤ) × (row rows k ≡ Int v)

@@ -14,10 +14,10 @@ ghost use Rattle.polars_compare_extremes.specs.Preference.{Prefers};
 use arrow_columns::column::Column;
 use polars_arrays_bits::bitmap::Bitmap;
 use polars_arrays_flat::validity::is_present;
-use polars_arrays_folds::fold::fold_under;
-use polars_arrays_folds::operator::Operator;
 use polars_arrays_numbers::comparison::{Comparison, Less};
 use polars_arrays_numbers::native_type::NativeType;
+use polars_compute_reductions::fold::fold_under;
+use polars_compute_reductions::operator::Operator;
 
 // An operator that folds numbers to the best of them and of a first one.
 trait BestFrom<T: NativeType>: Operator<T> + Drop {

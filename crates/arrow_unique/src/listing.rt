@@ -19,7 +19,7 @@ pub fn count_seen(count: usize, words: &[u64]) -> usize
 }
 
 /// Counts the numbers that were seen, of `count`, and null if one was.
-pub fn count_rows(count: usize, words: &[u64], flag: u64) -> usize
+pub fn count_finalised(count: usize, words: &[u64], flag: u64) -> usize
     requires { count + 1 < 2 ^ 64 }
     ensures { (least : ℤ) (put : ℤ → Row)
         → result ≡ length (finalised put (state_in least count words.now flag)) }

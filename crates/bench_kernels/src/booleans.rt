@@ -5,7 +5,7 @@ use crate::{NO_BIT, Timed, bit_of, repeat};
 use polars_compare_equality::kernel::TotalEqKernel;
 use polars_compare_extremes::kernel::MinMaxKernel;
 use polars_compare_order::kernel::TotalOrdKernel;
-use polars_compute_bits::bitwise::BitwiseKernel;
+use polars_compute_reductions::bitwise::BitwiseKernel;
 use polars_compute_unique::kernel::GenericUniqueKernel;
 use std::alloc::Global;
 

@@ -9,9 +9,9 @@ use polars_arrays_bits::error::ComputeError;
 use polars_arrays_flat::primitive::PrimitiveArray;
 use polars_arrays_numbers::native_type::NativeType;
 use polars_compare_extremes::kernel::MinMaxKernel;
-use polars_compute_bits::bit_number::BitNumber;
-use polars_compute_bits::bitwise::BitwiseKernel;
-use polars_compute_bits::sum::{WrappingSum, wrapping_sum_arr};
+use polars_compute_reductions::bit_number::BitNumber;
+use polars_compute_reductions::bitwise::BitwiseKernel;
+use polars_compute_reductions::sum::{WrappingSum, wrapping_sum_arr};
 use std::alloc::Global;
 
 /// A kernel on one array of numbers.

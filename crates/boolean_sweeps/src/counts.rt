@@ -6,7 +6,7 @@ use crate::tally::{Counts, Tally};
 use polars_arrays_flat::array::Array;
 use polars_arrays_flat::boolean::BooleanArray;
 use polars_arrays_flat::primitive::PrimitiveArray;
-use polars_compute_bits::bitwise::BitwiseKernel;
+use polars_compute_reductions::bitwise::BitwiseKernel;
 use recorded_text::fault::Fault;
 use std::alloc::Global;
 

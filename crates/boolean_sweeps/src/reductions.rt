@@ -4,7 +4,7 @@ use crate::column::Column;
 use crate::tally::Tally;
 use polars_arrays_flat::boolean::BooleanArray;
 use polars_compare_extremes::kernel::MinMaxKernel;
-use polars_compute_bits::bitwise::BitwiseKernel;
+use polars_compute_reductions::bitwise::BitwiseKernel;
 
 /// A reduction of the present rows.
 #[derive(Clone, Copy)]

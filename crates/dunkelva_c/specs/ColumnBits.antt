@@ -12,7 +12,7 @@ use Rattle.arrow_parts.specs.Kinds.{kind_number}
 use Rattle.arrow_parts.specs.declared.part.Part.{Part}
 use Rattle.dunkelva_c.specs.Columns.{IsTrueFault, NumberType, number_rows_of, number_type}
 use Rattle.polars_arrays_flat.specs.Row.{Row}
-use Rattle.polars_compute_bits.specs.Bitwise.{number_bits, reduced}
+use Rattle.polars_compute_reductions.specs.Bitwise.{number_bits, reduced}
 
 -- a number from `least` to `greatest` has the bits that an operator joins from those of rows; there
 -- is none if no row is present

@@ -12,7 +12,7 @@ use Rattle.arrow_columns.specs.declared.counting.Counting.TheVariants as countin
 use Rattle.arrow_parts.specs.Kinds.{kind_number}
 use Rattle.arrow_parts.specs.declared.part.Part.{Part}
 use Rattle.dunkelva_c.specs.Columns.{NumberType, count_at, number_rows_of, number_type}
-use Rattle.polars_compute_bits.specs.Bitwise.{counted}
+use Rattle.polars_compute_reductions.specs.Bitwise.{counted}
 
 -- counts under the validity of a part are those of its rows; a count of a null row is null
 abbrev pub AreCountsAt : Option NumberType → Counting → Part → List ℕ → Type 0

@@ -16,7 +16,7 @@ use arrow_calls::number::{Number, number_of, whole};
 use arrow_calls::operations::operator_of;
 use arrow_columns::reducing::{BitOperator, reduce_bits};
 use arrow_parts::part::{Part, PartKind};
-use polars_compute_bits::bit_number::BitNumber;
+use polars_compute_reductions::bit_number::BitNumber;
 use polars_compute_slots::number::UniqueNumber;
 use std::alloc::Global;
 

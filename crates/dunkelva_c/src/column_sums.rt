@@ -14,7 +14,7 @@ use arrow_calls::fault::{Fault, status};
 use arrow_calls::number::{Number, number_of, whole};
 use arrow_columns::reducing::sum;
 use arrow_parts::part::{Part, PartKind};
-use polars_compute_bits::sum::WrappingAdd;
+use polars_compute_reductions::sum::WrappingAdd;
 use polars_compute_slots::number::UniqueNumber;
 use std::alloc::Global;
 

@@ -19,7 +19,7 @@ use arrow_calls::fault::{Fault, status as fault_status};
 use arrow_calls::number::{Number, narrow, whole_of};
 use arrow_parts::part::{Part, PartKind};
 use arrow_unique::appending::append;
-use arrow_unique::listing::{count_rows, count_seen, list};
+use arrow_unique::listing::{count_finalised, count_seen, list};
 use arrow_unique::merging::merge;
 use arrow_unique::range::count_between;
 use polars_compute_slots::number::UniqueNumber;
@@ -244,7 +244,7 @@ fn count_state(
 {
     let range = range_of(least, greatest, words.len())?;
     *values = count_seen(range.count, words) as u64;
-    *rows = count_rows(range.count, words, flag) as u64;
+    *rows = count_finalised(range.count, words, flag) as u64;
     Ok(())
 }
 

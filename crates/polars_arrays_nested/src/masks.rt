@@ -4,7 +4,7 @@
 //! code decides which rows are null.
 
 ghost use Rattle.std.specs.Prelude.{◌≡◌, ◌+◌, ◌≤◌, ◌<◌, ℕ, false, IfSome, MatchResult, length};
-ghost use Rattle.std.specs.Option.{option_copied};
+ghost use Rattle.std.specs.Option.{ForSome, option_copied};
 ghost use Rattle.polars_arrays_bits.specs.Errors.{IsMemory};
 ghost use Rattle.polars_arrays_flat.specs.ArrayRows.{is_null};
 ghost use Rattle.polars_arrays_flat.specs.Validity.{HasBits, is_present, validity_window, window};
@@ -26,18 +26,8 @@ use polars_arrays_bits::error::ComputeError;
 use polars_arrays_bits::packing::TruthValues;
 use polars_arrays_flat::array::Array;
 use polars_arrays_flat::mask::Mask;
+use polars_arrays_flat::validity::is_present;
 use std::alloc::Global;
-
-// Returns whether row `i` exists and is present.
-#[inline(always)]
-fn has_row(validity: Option<&Bitmap>, i: usize) -> bool
-    ensures { result ≡ is_present (option_copied validity.entry) i }
-{
-    match validity {
-        Some(bits) => i < bits.len() && bits.get_bit(i),
-        None => true,
-    }
-}
 
 // Returns whether an array has bits of presence: a validity, its own or that of its last entries,
 // or only nulls.
@@ -65,9 +55,9 @@ fn is_there(array: &AnyArray, i: usize) -> bool
     match array {
         AnyArray::Null(_) => false,
         AnyArray::Dictionary(array) => {
-            has_row(array.keys().validity(), i) && is_there(array.values(), array.key_value(i))
+            is_present(array.keys().validity(), i) && is_there(array.values(), array.key_value(i))
         }
-        _ => has_row(array.validity(), i),
+        _ => is_present(array.validity(), i),
     }
 }
 
@@ -80,7 +70,7 @@ pub(crate) fn has_entry(array: &DictionaryArray, i: usize) -> bool
         ≡ names_present (dictionary_keys array.now) (presence_of (dictionary_values array.now)) i }
 {
     let keys = array.keys();
-    has_row(keys.validity(), i) && is_there(array.values(), array.key_value(i))
+    is_present(keys.validity(), i) && is_there(array.values(), array.key_value(i))
 }
 
 // Truth values for the `n` keys from key `at` on: whether the key is present and names a present
@@ -93,6 +83,7 @@ struct NamedEntries<'m, 'a> {
     at: usize,
     n: usize,
     ghost of_keys: { option_copied validity ≡ key_validity keys.now },
+    ghost bits: { ForSome (key_validity keys.now) (λ bits. length bits ≡ key_count keys.now) },
     ghost within: { at + n ≤ key_count keys.now },
 }
 
@@ -111,7 +102,7 @@ impl TruthValues for NamedEntries<'_, '_> {
         // Has no effect at run time. The proof learns from it that the sum fits in 64 bits.
         let _keys = self.keys.len();
         let row = self.at + i;
-        has_row(self.validity, row) && self.entries.is_present(self.keys.key(row))
+        is_present(self.validity, row) && self.entries.is_present(self.keys.key(row))
     }
 }
 

@@ -172,8 +172,8 @@ impl<O: UnaryOperator, A: BitSource> BitSource for Mapped<O, A> {
     }
 
     #[inline(always)]
-    fn has_few_steps(&self) -> bool {
-        self.source.has_few_steps()
+    fn is_cheap(&self) -> bool {
+        self.source.is_cheap()
     }
 
     #[inline]
@@ -208,8 +208,8 @@ impl<O: BinaryOperator, A: BitSource, B: BitSource> BitSource for Zipped<O, A, B
     }
 
     #[inline(always)]
-    fn has_few_steps(&self) -> bool {
-        self.left.has_few_steps() && self.right.has_few_steps()
+    fn is_cheap(&self) -> bool {
+        self.left.is_cheap() && self.right.is_cheap()
     }
 
     #[inline]
@@ -248,8 +248,8 @@ impl<O: TernaryOperator, A: BitSource, B: BitSource, C: BitSource> BitSource
     }
 
     #[inline(always)]
-    fn has_few_steps(&self) -> bool {
-        self.first.has_few_steps() && self.second.has_few_steps() && self.third.has_few_steps()
+    fn is_cheap(&self) -> bool {
+        self.first.is_cheap() && self.second.is_cheap() && self.third.is_cheap()
     }
 
     #[inline]

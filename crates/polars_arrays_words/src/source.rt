@@ -18,11 +18,11 @@ pub trait BitSource {
     fn inner_words(&self) -> usize
         ensures { result ≡ inner self.now };
 
-    /// Returns whether reading a word takes few steps, so that loops read four words a turn.
-    // A loop of few steps takes up to two fifths longer if its last jump lies badly in the
-    // processor's cache.
+    /// Returns whether reading a word is cheap, so that loops read four words a turn.
+    // A short loop takes up to two fifths longer if its last jump lies badly in the processor's
+    // cache.
     #[inline(always)]
-    fn has_few_steps(&self) -> bool {
+    fn is_cheap(&self) -> bool {
         false
     }
 
@@ -55,7 +55,7 @@ impl BitSource for Aligned<'_> {
     }
 
     #[inline(always)]
-    fn has_few_steps(&self) -> bool {
+    fn is_cheap(&self) -> bool {
         true
     }
 
@@ -90,7 +90,7 @@ impl BitSource for Shifted<'_> {
     }
 
     #[inline(always)]
-    fn has_few_steps(&self) -> bool {
+    fn is_cheap(&self) -> bool {
         true
     }
 
@@ -220,7 +220,7 @@ pub fn collect_words<S: BitSource>(
 {
     let mut words = Vec::with_capacity(alloc, count)?;
     let inner = source.inner_words().min(count);
-    let fours = if source.has_few_steps() { inner / 4 } else { 0 };
+    let fours = if source.is_cheap() { inner / 4 } else { 0 };
     push_fours(&mut words, source, fours);
     push_inner_words(&mut words, source, 4 * fours, inner);
     push_words(&mut words, source, inner, count);

@@ -16,7 +16,7 @@ pub use polars_compare_nested::laws::{law_steps, law_tally};
 
 /// States that of two rows with an order exactly one holds: the first is less, they are equal, or
 /// it is greater. It is at most the other if it is less or equal.
-pub fn law_1()
+pub fn law_total_order()
     ensures same { SameIsEqual }
     ensures one_of_three { OneOfThree }
     ensures at_most { AtMostIsLessOrSame }
@@ -26,7 +26,7 @@ pub fn law_1()
 /// States that missing equality of arrays of one type and length is reflexive, symmetric and
 /// transitive, and that missing inequality is its complement. This holds of arrays of one kind by
 /// their rows, and of any two arrays.
-pub fn law_2()
+pub fn law_missing_equivalence()
     ensures reflexive { MissingIsReflexive }
     ensures symmetric { MissingIsSymmetric }
     ensures transitive { MissingIsTransitive }
@@ -39,7 +39,7 @@ pub fn law_2()
 
 /// States that arrays with the same rows get the same bits, however they are stored and masked. For
 /// the raw comparisons this holds at each row that is null on neither side.
-pub fn law_3()
+pub fn law_rows_alone()
     ensures missing { MissingByRows }
     ensures arrays { ArraysByRows }
     ensures raw_equality { RawEqualityByRows }

@@ -9,9 +9,8 @@ pub use polars_compare_equality::{borrowed as borrowed_equality, kernel as equal
 pub use polars_compare_extremes::{
     borrowed as borrowed_extremes, dispatch as any_extremes, kernel as extremes, scalar,
 };
-pub use polars_compare_leaves::{booleans, bytes, joining, numbers, row_comparison};
+pub use polars_compare_leaves::{booleans, bytes, followed, joining, numbers, row_comparison};
 pub use polars_compare_nested::{kernels as dispatch, leaf_kernel};
 pub use polars_compare_order::{borrowed as borrowed_order, kernel as order};
-pub use polars_compare_views::followed;
 
 pub mod laws;

@@ -6,7 +6,7 @@ use Rattle.polars_arrays_flat.specs.Row.{Row, Null, Bytes}
 use Rattle.polars_arrays_flat.specs.StoredRows.{row, byte_slots}
 use Rattle.polars_compare_leaves.specs.Equality.{RawEquality}
 use Rattle.polars_compare_leaves.specs.Sameness.{same_row, other_row}
-use Rattle.polars_compare_views.specs.Pairs.{ComparesPairs}
+use Rattle.polars_compare_leaves.specs.Pairs.{ComparesPairs}
 use Rattle.polars_compare_equality.proofs.Raw.{same-told, other-told}
 
 from-zero : (i : ℕ) → 0 + i ≡ i

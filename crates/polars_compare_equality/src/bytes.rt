@@ -16,7 +16,7 @@ use polars_arrays_flat::byte_rows::ByteRows;
 use polars_arrays_numbers::comparison::{Equal, Unequal};
 use polars_arrays_numbers::offset::Offset;
 use polars_compare_leaves::bytes::{compare_byte_windows, compare_bytes};
-use polars_compare_nested::sized::compare_sized_windows;
+use polars_compare_leaves::sized::compare_sized_windows;
 use std::alloc::Global;
 
 impl<O: Offset + 'static> TotalEqKernel for BinaryArray<O> {

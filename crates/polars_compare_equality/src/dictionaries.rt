@@ -15,7 +15,7 @@ use polars_arrays_flat::data_type::same_keys;
 use polars_arrays_nested::any_array::AnyArray;
 use polars_arrays_nested::dictionary::DictionaryArray;
 use polars_arrays_numbers::steps::Steps;
-use polars_compare_nested::windows::dictionary_windows;
+use polars_compare_nested::windows::eq_dictionaries;
 use std::alloc::Global;
 
 impl TotalEqKernel for DictionaryArray {
@@ -44,7 +44,7 @@ impl TotalEqKernel for DictionaryArray {
 
     fn tot_eq_kernel(&self, alloc: Global, other: &Self) -> Result<Bitmap, ComputeError> {
         let n = self.keys().len();
-        dictionary_windows(alloc, self, 0, other, 0, n, &mut Steps::new())
+        eq_dictionaries(alloc, self, 0, other, 0, n, &mut Steps::new())
     }
 
     fn tot_ne_kernel(&self, alloc: Global, other: &Self) -> Result<Bitmap, ComputeError> {

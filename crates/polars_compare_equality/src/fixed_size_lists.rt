@@ -17,7 +17,7 @@ use polars_arrays_nested::any_array::AnyArray;
 use polars_arrays_nested::fixed_size_list::FixedSizeListArray;
 use polars_arrays_numbers::steps::Steps;
 use polars_compare_nested::broadcasts::fixed_size_list_broadcast;
-use polars_compare_nested::windows::fixed_size_list_windows;
+use polars_compare_nested::windows::eq_fixed_size_lists;
 use std::alloc::Global;
 
 impl TotalEqKernel for FixedSizeListArray {
@@ -48,7 +48,7 @@ impl TotalEqKernel for FixedSizeListArray {
         if self.width() != other.width() {
             return Bitmap::new_zeroed(alloc, n);
         }
-        fixed_size_list_windows(alloc, self, 0, other, 0, n, &mut Steps::new())
+        eq_fixed_size_lists(alloc, self, 0, other, 0, n, &mut Steps::new())
     }
 
     fn tot_ne_kernel(&self, alloc: Global, other: &Self) -> Result<Bitmap, ComputeError> {

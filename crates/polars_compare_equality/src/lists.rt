@@ -17,7 +17,7 @@ use polars_arrays_nested::any_array::AnyArray;
 use polars_arrays_nested::list::ListArray;
 use polars_arrays_numbers::steps::Steps;
 use polars_compare_nested::broadcasts::list_broadcast;
-use polars_compare_nested::windows::list_windows;
+use polars_compare_nested::windows::eq_lists;
 use std::alloc::Global;
 
 impl TotalEqKernel for ListArray {
@@ -46,7 +46,7 @@ impl TotalEqKernel for ListArray {
 
     fn tot_eq_kernel(&self, alloc: Global, other: &Self) -> Result<Bitmap, ComputeError> {
         let n = self.offsets().len();
-        list_windows(alloc, self, 0, other, 0, n, &mut Steps::new())
+        eq_lists(alloc, self, 0, other, 0, n, &mut Steps::new())
     }
 
     fn tot_ne_kernel(&self, alloc: Global, other: &Self) -> Result<Bitmap, ComputeError> {

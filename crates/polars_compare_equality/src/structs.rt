@@ -14,7 +14,7 @@ use polars_arrays_flat::data_type::same_fields;
 use polars_arrays_nested::any_array::AnyArray;
 use polars_arrays_nested::struct_array::StructArray;
 use polars_arrays_numbers::steps::Steps;
-use polars_compare_nested::windows::struct_windows;
+use polars_compare_nested::windows::eq_structs;
 use std::alloc::Global;
 
 impl TotalEqKernel for StructArray {
@@ -44,7 +44,7 @@ impl TotalEqKernel for StructArray {
         if !same_fields(self.fields(), other.fields()) {
             return Bitmap::new_zeroed(alloc, n);
         }
-        struct_windows(alloc, self, 0, other, 0, n, &mut Steps::new())
+        eq_structs(alloc, self, 0, other, 0, n, &mut Steps::new())
     }
 
     fn tot_ne_kernel(&self, alloc: Global, other: &Self) -> Result<Bitmap, ComputeError> {

@@ -14,8 +14,8 @@ use polars_arrays_numbers::comparison::{Equal, Unequal};
 use polars_arrays_numbers::steps::Steps;
 use polars_arrays_views::binary_view::BinaryViewArray;
 use polars_arrays_views::text_view::Utf8ViewArray;
-use polars_compare_views::followed::FollowedKernel;
-use polars_compare_views::windows::{compare_view_bytes, compare_view_windows};
+use polars_compare_leaves::followed::FollowedKernel;
+use polars_compare_leaves::view_windows::{compare_view_bytes, compare_view_windows};
 use std::alloc::Global;
 
 impl TotalEqKernel for BinaryViewArray {

@@ -4,7 +4,7 @@ use Rattle.std.specs.Prelude.{ℤ}
 use mathlib.Core.Logic.{⊎_elim}
 use Rattle.polars_arrays_flat.specs.Row.{Row, Null, Int, Truth, Bytes, Rows, Fields, Entry}
 use Rattle.polars_arrays_flat.specs.StoredRows.{row}
-use Rattle.polars_arrays_folds.specs.Folds.{folded, row_joined}
+use Rattle.polars_compute_reductions.specs.Folds.{folded, row_joined}
 use Rattle.polars_compare_extremes.specs.BestNumber.{best_of}
 use Rattle.polars_compare_extremes.specs.BestNumberLaws.{refuted}
 use Rattle.polars_compare_extremes.specs.Extremes.{FindsBest}

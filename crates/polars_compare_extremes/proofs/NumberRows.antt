@@ -7,7 +7,7 @@ use Rattle.polars_arrays_flat.specs.Row.{Row, Null, Int}
 use Rattle.polars_arrays_flat.specs.SlotLaws.{number_slots-present}
 use Rattle.polars_arrays_flat.specs.StoredRows.{row, kept, rows_under, number_slots}
 use Rattle.polars_arrays_flat.specs.Validity.{HasBits, is_present}
-use Rattle.polars_arrays_folds.specs.Folds.{folded}
+use Rattle.polars_compute_reductions.specs.Folds.{folded}
 use Rattle.polars_compare_extremes.specs.BestNumber.{best_of}
 use Rattle.polars_compare_extremes.specs.Extremes.{FindsBest, NonePresent}
 use Rattle.polars_compare_extremes.specs.Places.{IsFirstPresent}

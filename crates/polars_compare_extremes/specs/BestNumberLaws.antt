@@ -4,7 +4,7 @@ use Rattle.std.specs.declared.cmp.Ordering.TheVariants.{Less, Equal, Greater}
 use Rattle.std.proofs.Common.{sym, ap, ◌∙◌}
 use Rattle.std.proofs.lemmas.Cmp.{int_ranked}
 use Rattle.polars_arrays_flat.specs.Row.{Row, Int}
-use Rattle.polars_arrays_folds.specs.Folds.{Folds}
+use Rattle.polars_compute_reductions.specs.Folds.{Folds}
 use Rattle.polars_compare_leaves.specs.Order.{row_less, row_greater}
 use Rattle.polars_compare_extremes.specs.BestNumber.{best_of}
 use Rattle.polars_compare_extremes.specs.Preference.{Prefers}

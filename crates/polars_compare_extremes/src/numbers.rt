@@ -17,10 +17,10 @@ use crate::places::first_present;
 use polars_arrays_bits::bitmap::Bitmap;
 use polars_arrays_flat::array::Array;
 use polars_arrays_flat::primitive::PrimitiveArray;
-use polars_arrays_folds::fold::{fold_all_both, fold_under};
-use polars_arrays_folds::operator::Operator;
 use polars_arrays_numbers::comparison::{Comparison, Less};
 use polars_arrays_numbers::native_type::NativeType;
+use polars_compute_reductions::fold::{fold_all_both, fold_under};
+use polars_compute_reductions::operator::Operator;
 
 /// An operator that folds numbers to the best of them and of a first one.
 trait BestFrom<T: NativeType>: Operator<T> + Drop {

@@ -31,7 +31,7 @@ pub trait TruthComparison {
 
     /// Returns a bitmap with a bit for each place of two windows of equal length, set where the
     /// comparison holds of the two bits. The error is `Memory`.
-    fn compare_masks(
+    fn compare_bits(
         &self,
         alloc: Global,
         left: &BitMask<'_>,
@@ -49,7 +49,7 @@ impl TruthComparison for Equal {
         left == right
     }
 
-    fn compare_masks(
+    fn compare_bits(
         &self,
         alloc: Global,
         left: &BitMask<'_>,
@@ -66,7 +66,7 @@ impl TruthComparison for Unequal {
         left != right
     }
 
-    fn compare_masks(
+    fn compare_bits(
         &self,
         alloc: Global,
         left: &BitMask<'_>,
@@ -83,7 +83,7 @@ impl TruthComparison for Less {
         !left && right
     }
 
-    fn compare_masks(
+    fn compare_bits(
         &self,
         alloc: Global,
         left: &BitMask<'_>,
@@ -100,7 +100,7 @@ impl TruthComparison for LessOrEqual {
         !left || right
     }
 
-    fn compare_masks(
+    fn compare_bits(
         &self,
         alloc: Global,
         left: &BitMask<'_>,
@@ -117,7 +117,7 @@ impl TruthComparison for Greater {
         left && !right
     }
 
-    fn compare_masks(
+    fn compare_bits(
         &self,
         alloc: Global,
         left: &BitMask<'_>,
@@ -134,7 +134,7 @@ impl TruthComparison for GreaterOrEqual {
         left || !right
     }
 
-    fn compare_masks(
+    fn compare_bits(
         &self,
         alloc: Global,
         left: &BitMask<'_>,
@@ -163,7 +163,7 @@ pub fn compare_truth_windows<E: TruthComparison>(
 {
     let left = BitMask::from_bitmap(left.values()).window(a, n);
     let right = BitMask::from_bitmap(right.values()).window(b, n);
-    comparison.compare_masks(alloc, &left, &right)
+    comparison.compare_bits(alloc, &left, &right)
 }
 
 /// Compares each stored row with a truth value. The error is `Memory`.

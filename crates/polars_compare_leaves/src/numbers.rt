@@ -14,9 +14,7 @@ use crate::row_comparison::RowComparison;
 use polars_arrays_bits::bitmap::Bitmap;
 use polars_arrays_bits::error::ComputeError;
 use polars_arrays_bits::mutable_bitmap::MutableBitmap;
-use polars_arrays_bits::slices::{
-    Pairs, and_pairs, compare_constant, compare_few, compare_windows,
-};
+use polars_arrays_bits::slices::{Pairs, and_pairs, compare_constant, compare_few};
 use polars_arrays_flat::mask::Mask;
 use polars_arrays_flat::primitive::PrimitiveArray;
 use polars_arrays_numbers::native_type::NativeType;
@@ -39,7 +37,12 @@ pub fn compare_number_windows<T: NativeType, E: RowComparison<T>>(
         (window a n (number_slots T.value left.now.values))
         (window b n (number_slots T.value right.now.values))) IsMemory }
 {
-    compare_windows(alloc, comparison, left.values(), a, right.values(), b, n)
+    let pairs = Pairs {
+        comparison,
+        left: &left.values()[a..a + n],
+        right: &right.values()[b..b + n],
+    };
+    Bitmap::from_values(alloc, &pairs)
 }
 
 /// Compares at most 64 stored rows of two windows, place by place. The results are the bits of a

@@ -8,6 +8,7 @@ use Rattle.polars_arrays_bits.specs.Errors.{IsMemory}
 use Rattle.polars_arrays_bits.specs.declared.error.ComputeError.{ComputeError}
 use Rattle.polars_arrays_flat.specs.Row.{Row, Null, Int, Truth, Bytes, Rows, Fields, Entry}
 use Rattle.polars_arrays_flat.specs.StoredRows.{row as row_at}
+use Rattle.polars_arrays_nested.proofs.LeafSlots.{leaves-add}
 use Rattle.polars_arrays_nested.specs.AnyRows.{row, rows}
 use Rattle.polars_arrays_nested.specs.GoodParts.{IsGood}
 use Rattle.polars_arrays_nested.specs.Leaves.{leaves}
@@ -19,7 +20,8 @@ use Rattle.polars_compare_leaves.specs.Sameness.{same}
 use Rattle.polars_compare_nested.specs.Bits.{SameBits}
 use Rattle.polars_compare_nested.specs.Headline.{IsEquality, SameRows, SameTrees}
 use Rattle.polars_compare_nested.specs.Tally.{tally}
-use Rattle.polars_compare_nested.specs.TallyLaws.{TallyIsSymmetric, TallyIsWithinLeaves}
+use Rattle.polars_compare_nested.proofs.TallySwap.{tally-swap}
+use Rattle.polars_compare_nested.proofs.TallyWithin.{tally-within}
 use Rattle.polars_compare_nested.proofs.Trees.{equality-trees}
 
 -- each bit of two whole arrays
@@ -120,14 +122,14 @@ result-missing told l r result one_type one_length trees =
     MatchResult-weaker result trees (λ bits here. missing-told told l r bits one_type one_length here) (λ e memory. memory)
 
 -- the comparisons of two whole arrays are no more than the leaf slots of the left one
-pub within-left : TallyIsWithinLeaves → (l r : AnyArray) → IsGood l → tally l r 0 0 (len_of l) ≤ leaves l 0 (len_of l)
-within-left within l r good = within l r good 0 0 (len_of l) (omega arith)
+pub within-left : (l r : AnyArray) → IsGood l → tally l r 0 0 (len_of l) ≤ leaves l 0 (len_of l)
+within-left l r good = tally-within leaves-add l r good 0 0 (len_of l) (omega arith)
 
 -- nor, by symmetry, than those of the right one
-pub within-right : TallyIsWithinLeaves → TallyIsSymmetric → (l r : AnyArray) → IsGood l → IsGood r → type_of l ≡ type_of r → len_of l ≡ len_of r → tally l r 0 0 (len_of l) ≤ leaves r 0 (len_of r)
-within-right within symmetric l r good good' one_type one_length =
-    let turned_round = symmetric l r good good' one_type 0 0 (len_of l) in
-    let whole : tally r l 0 0 (len_of l) ≤ leaves r 0 (len_of l) = within r l good' 0 0 (len_of l) (omega (arith, one_length)) in
+pub within-right : (l r : AnyArray) → IsGood l → IsGood r → type_of l ≡ type_of r → len_of l ≡ len_of r → tally l r 0 0 (len_of l) ≤ leaves r 0 (len_of r)
+within-right l r good good' one_type one_length =
+    let turned_round = tally-swap l r good good' one_type 0 0 (len_of l) in
+    let whole : tally r l 0 0 (len_of l) ≤ leaves r 0 (len_of l) = tally-within leaves-add r l good' 0 0 (len_of l) (omega (arith, one_length)) in
     let same_leaves : leaves r 0 (len_of l) ≡ leaves r 0 (len_of r) = ap (λ (n : ℕ). leaves r 0 n) one_length in
     omega (arith, turned_round, whole, same_leaves)
 

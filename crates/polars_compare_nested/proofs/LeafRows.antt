@@ -1,11 +1,15 @@
 -- The bits of a test of stored leaves, place by place, for the rows that are present.
-use Rattle.std.proofs.Common.{◌≡◌, ◌<◌, ◌≤◌, ◌+◌, ◌∙◌, ℕ, ℤ, zero, suc, Bool, true, false, IsTrue, List, [], ◌∷◌, Option, Some, None, length, map, drop, refl, sym, ap, arith, slice_get, slice_index_or}
+use Rattle.std.proofs.Common.{◌≡◌, ◌<◌, ◌≤◌, ◌+◌, ◌∙◌, ℕ, ℤ, zero, suc, Bool, true, false, IsTrue, List, [], ◌∷◌, Option, Some, None, length, map, drop, MatchResult, refl, sym, ap, arith, slice_get, slice_index_or}
+use Rattle.std.specs.Prelude.{Result}
 use Rattle.std.specs.Bool.{beq}
 use Rattle.std.specs.Ordering.{int_eq}
 use Rattle.std.specs.Simd.Lanes.{zip2}
 use Rattle.std.specs.Str.{bytes_eq}
+use Rattle.std.proofs.lemmas.Result.{MatchResult-weaker}
 use Rattle.std.proofs.lemmas.Simd.{get_or-zip2}
 use Rattle.std.proofs.lemmas.List.{get_or-drop, get_or-map, get_or-take, length-drop, length-map, length-take}
+use Rattle.polars_arrays_bits.specs.Errors.{IsMemory}
+use Rattle.polars_arrays_bits.specs.declared.error.ComputeError.{ComputeError}
 use Rattle.polars_arrays_flat.specs.ArrayRows.{number_rows, truth_rows}
 use Rattle.polars_arrays_flat.specs.Flat.{Flat}
 use Rattle.polars_arrays_flat.specs.Numbers.{Numbers}
@@ -15,7 +19,7 @@ use Rattle.polars_arrays_flat.specs.StoredRows.{row as row_at}
 use Rattle.polars_arrays_flat.specs.Validity.{is_present, window}
 use Rattle.polars_compare_leaves.specs.Sameness.{same_leaf, same_row}
 use Rattle.polars_compare_nested.specs.Bits.{PresentBit, PresentBits}
-use Rattle.polars_compare_views.specs.Pairs.{ComparesPairs}
+use Rattle.polars_compare_leaves.specs.Pairs.{ComparesPairs}
 
 present-masked : (bits : List Bool) (xs : List Row) (i : ℕ) → IsTrue (slice_index_or bits i false) → row_at (masked bits xs) i ≡ row_at xs i
 present-masked [] xs i h = cc
@@ -110,6 +114,21 @@ truth-bits l r a b n bits left_in right_in =
     (of_leaves Truth l.values same-truth)
     (omega (arith, left_in, length-map l.values Truth))
     (omega (arith, right_in, length-map r.values Truth))
+
+-- the same, of the results of calls
+pub number-leaves :
+    {A : Type 0} (value : A → ℤ) (l r : Numbers A) (a b n : ℕ) (result : Result (List Bool) ComputeError) → a + n ≤ length l.values → b + n ≤ length r.values
+    → MatchResult result (λ bits. bits ≡ zip2 same_row (window a n (number_slots value l.values)) (window b n (number_slots value r.values))) IsMemory
+    → MatchResult result (PresentBits same_leaf (row_at (number_rows value l)) l.validity a (row_at (number_rows value r)) r.validity b n) IsMemory
+number-leaves value l r a b n result left_in right_in told =
+    MatchResult-weaker result told (λ bits e. number-bits value l r a b n bits left_in right_in e) (λ error m. m)
+
+pub truth-leaves :
+    (l r : Flat Bool) (a b n : ℕ) (result : Result (List Bool) ComputeError) → a + n ≤ length l.values → b + n ≤ length r.values
+    → MatchResult result (λ bits. bits ≡ zip2 same_row (window a n (truth_slots l.values)) (window b n (truth_slots r.values))) IsMemory
+    → MatchResult result (PresentBits same_leaf (row_at (truth_rows l)) l.validity a (row_at (truth_rows r)) r.validity b n) IsMemory
+truth-leaves l r a b n result left_in right_in told =
+    MatchResult-weaker result told (λ bits e. truth-bits l r a b n bits left_in right_in e) (λ error m. m)
 
 pub byte-bits :
     (l r : Option (List Bool)) (xs ys : List (List ℕ)) (a b n : ℕ) (bits : List Bool) → a + n ≤ length xs → b + n ≤ length ys

@@ -1,6 +1,8 @@
 -- Raw bits of windows, as they grow, and as they come from those of what the rows hold.
-use Rattle.std.proofs.Common.{◌≡◌, ◌<◌, ◌≤◌, ◌+◌, ◌-◌, ◌*◌, ◌∙◌, ℕ, Bool, true, false, not, IsTrue, cond, List, [], ◌∷◌, ◌++◌, Some, length, length-append, get_or, refl, sym, ap, ap₂, subst, arith, add-zero, inl, inr, slice_get}
+use Rattle.std.proofs.Common.{◌≡◌, ◌<◌, ◌≤◌, ◌+◌, ◌-◌, ◌*◌, ◌∙◌, ℕ, Bool, true, false, not, IsTrue, cond, List, [], ◌∷◌, ◌++◌, Some, length, length-append, get_or, refl, sym, ap, ap₂, subst, arith, add-zero, inl, inr, slice_get, replicate}
+use Rattle.std.specs.Prelude.{Result, Ok, Err, IfOk}
 use Rattle.std.proofs.lemmas.Bool.{cases_lt}
+use Rattle.std.proofs.lemmas.List.{get_or-replicate, length-replicate}
 use Rattle.std.proofs.lemmas.List.FromFn.{length-map-range_with_len, get_or-map-range_with_len}
 use Rattle.std.specs.List.{list_all}
 use Rattle.std.proofs.Math.ListN.{get_or-append}
@@ -8,7 +10,9 @@ use Rattle.std.proofs.Math.Nat.{mul-add, mul-one, mul-le-mul_left}
 use Rattle.std.proofs.Math.Seq.{get_or-append_seam}
 use Rattle.std.proofs.lemmas.Option.{get_or_from_slice_get}
 use Rattle.polars_arrays_bits.specs.Blocks.{blocks_all}
+use Rattle.polars_arrays_bits.specs.declared.error.ComputeError.{ComputeError}
 use Rattle.polars_arrays_flat.specs.ArrayRows.{is_null}
+use Rattle.polars_arrays_flat.specs.Kind.{NullKind}
 use Rattle.polars_arrays_flat.specs.Row.{Row, Null, Int, Truth, Bytes, Rows, Fields, Entry}
 use Rattle.polars_arrays_flat.specs.StoredRows.{kept}
 use Rattle.polars_arrays_flat.specs.Validity.{is_present, window}
@@ -20,10 +24,11 @@ use Rattle.polars_arrays_nested.specs.Lengths.{len_of}
 use Rattle.polars_arrays_nested.specs.Masks.{mask_of, presence_of}
 use Rattle.polars_arrays_nested.specs.Parts.{dictionary_keys, dictionary_values, fixed_validity, fixed_values, fixed_width}
 use Rattle.polars_arrays_nested.specs.Types.{type_of}
-use Rattle.polars_arrays_nested.specs.declared.any_array.AnyArray.{AnyArray, FixedSizeList, Dictionary}
+use Rattle.polars_arrays_nested.specs.declared.any_array.AnyArray.{AnyArray, List', FixedSizeList, Dictionary}
 use Rattle.polars_arrays_nested.specs.declared.any_array.AnyArray.{Null as Nulls}
 use Rattle.polars_arrays_nested.specs.declared.dictionary.DictionaryArray.{DictionaryArray}
 use Rattle.polars_arrays_nested.specs.declared.fixed_size_list.FixedSizeListArray.{FixedSizeListArray}
+use Rattle.polars_arrays_nested.specs.declared.list_offsets.ListOffsets.TheVariants.{Small, Large}
 use Rattle.polars_compare_leaves.specs.Sameness.{same, same_rows}
 use Rattle.polars_compare_nested.specs.Bits.{AddsRawBits, RawBits, SameBits, SamePresent}
 use Rattle.polars_compare_nested.specs.Entries.{AreEntries, both_present}
@@ -47,6 +52,26 @@ raw_adds agree l a r b m k old new h adds = record {
         let right : b + m + (i - m) ≡ b + i = omega arith in
         let bit = adds.at_present (i - m) (omega arith) (rw (left, right) both) in
         rw (h.size, at, left, right) at bit)
+  ];
+}
+
+-- no bits are added
+pub adds_none : (agree : Row → Row → Bool) (l : AnyArray) (a : ℕ) (r : AnyArray) (b : ℕ) (old : List Bool) → AddsRawBits agree l a r b 0 old old
+adds_none agree l a r b old = record { size = omega arith; kept = λ i low. refl; at_present = λ i low both. absurd (omega arith) }
+
+-- bits are added behind others that were
+pub adds_more : (agree : Row → Row → Bool) (l : AnyArray) (a : ℕ) (r : AnyArray) (b m k : ℕ) (old mid new : List Bool) → AddsRawBits agree l a r b m old mid → AddsRawBits agree l (a + m) r (b + m) k mid new → AddsRawBits agree l a r b (m + k) old new
+adds_more agree l a r b m k old mid new first next = record {
+  size = omega (arith, first.size, next.size);
+  kept = λ i low. next.kept i (omega (arith, low, first.size)) ∙ first.kept i low;
+  at_present = λ i low both. elim (cases_lt i m) [
+    | inl before ↦ next.kept (length old + i) (omega (arith, before, first.size)) ∙ first.at_present i before both
+    | inr after ↦ (
+        let place : length mid + (i - m) ≡ length old + i = omega (arith, after, first.size) in
+        let left : a + m + (i - m) ≡ a + i = omega arith in
+        let right : b + m + (i - m) ≡ b + i = omega arith in
+        let bit = next.at_present (i - m) (omega arith) (rw (left, right) both) in
+        rw (place, left, right) at bit)
   ];
 }
 
@@ -176,3 +201,29 @@ entry_count l r i j x y pair ex ey entries =
     let cost : entry_tally child (dictionary_keys l) (dictionary_keys r) i j ≡ child (key_at (dictionary_keys l) i) (key_at (dictionary_keys r) j) 1 =
     ap (λ (p : Bool). cond p (child (key_at (dictionary_keys l) i) (key_at (dictionary_keys r) j) 1) 0) entries.present in
     rw (ex, ey, entries.left_is, entries.right_is, add-zero i, add-zero j) (omega (arith, cost))
+
+-- each row of an array of nulls is null
+null_row : (y : AnyArray) (i : ℕ) → type_of y ≡ NullKind → row y i ≡ Null
+null_row (Nulls k) i t = refl
+null_row (List' (Small o) p values mask) i t = cc
+null_row (List' (Large o) p values mask) i t = cc
+null_row _ i t = cc
+
+-- so all rows of two such arrays are the same
+pub raw_nulls : (agree : Row → Row → Bool) (k : ℕ) (y : AnyArray) (a b n : ℕ) (bits : List Bool) → type_of y ≡ NullKind → bits ≡ replicate n true → RawBits agree (Nulls k) a y b n bits
+raw_nulls agree k y a b n bits t e = record {
+  size = rw e (length-replicate n true);
+  at_present = λ i low present. rw (e, null_row y (b + i) t) (get_or-replicate n i true false low);
+}
+
+tally_nulls : (k : ℕ) (y : AnyArray) (a b n : ℕ) → tally (Nulls k) y a b n ≡ 0
+tally_nulls k y a b n = refl
+
+-- and nothing is compared
+pub null_free : (k : ℕ) (y : AnyArray) (a b n count : ℕ) → count ≡ count + tally (Nulls k) y a b n
+null_free k y a b n count = omega (arith, tally_nulls k y a b n)
+
+-- what holds anyway holds if there is a result
+pub on_ok : (result : Result (List Bool) ComputeError) (X : Type 0) → X → IfOk result (λ _. X)
+on_ok (Ok bits) X h = h
+on_ok (Err e) X h = tt

@@ -1,9 +1,13 @@
 -- The entries that two rows of dictionaries name.
-use Rattle.std.specs.Prelude.{◌≡◌, ◌<◌, ◌&&◌, ℕ, Bool, false, true, Option, Some, None}
+use Rattle.std.specs.Prelude.{◌≡◌, ◌<◌, ◌+◌, ◌&&◌, ℕ, Bool, List, false, true, Option, Some, None}
+use Rattle.std.specs.Prelude.{length, slice_index}
+use Rattle.polars_arrays_bytes.specs.OffsetStrings.{place_at}
 use Rattle.polars_arrays_flat.specs.Validity.{is_present}
-use Rattle.polars_arrays_nested.specs.DictKeys.{key_at, key_validity}
+use Rattle.polars_arrays_nested.specs.DictKeys.{key_at, key_places, key_validity}
 use Rattle.polars_arrays_nested.specs.Lengths.{len_of}
 use Rattle.polars_arrays_nested.specs.Parts.{dictionary_keys, dictionary_values}
+use Rattle.polars_arrays_nested.specs.Places.{place_or_zero}
+use Rattle.polars_arrays_nested.specs.declared.dict_keys.DictKeys.{DictKeys}
 use Rattle.polars_arrays_nested.specs.declared.dictionary.DictionaryArray.{DictionaryArray}
 use Rattle.polars_compare_nested.specs.declared.entries.EntryPair.{EntryPair}
 
@@ -26,3 +30,12 @@ pub record AreEntries (l : DictionaryArray) (i : ℕ) (r : DictionaryArray) (j :
 abbrev pub AreRowEntries : DictionaryArray → ℕ → DictionaryArray → ℕ → Option EntryPair → Type 0
 AreRowEntries l i r j None = both_present l i r j ≡ false
 AreRowEntries l i r j (Some pair) = AreEntries l i r j pair
+
+-- the first n of 64 numbers are n of the places from place `at` on, 0 for none
+pub record HoldsPlaces (all : List (Option ℕ)) (at n : ℕ) (found : List ℕ) : Type 0 where
+  pub size : length found ≡ 64
+  pub each : (k : ℕ) → k < n → slice_index found k ≡ place_or_zero (place_at all (at + k))
+
+-- the first n of 64 numbers are n keys from key `at` on
+abbrev pub HoldsKeys : DictKeys → ℕ → ℕ → List ℕ → Type 0
+HoldsKeys keys at n found = HoldsPlaces (key_places keys) at n found

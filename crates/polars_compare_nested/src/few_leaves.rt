@@ -17,9 +17,9 @@ use polars_arrays_nested::any_array::AnyArray;
 use polars_arrays_words::words::WORD_BITS;
 use std::alloc::Global;
 
-// Returns whether the rows of an array are leaves.
+/// Returns whether the rows of an array are leaves.
 #[inline(always)]
-fn has_leaves(array: &AnyArray) -> bool
+pub(crate) fn has_leaves(array: &AnyArray) -> bool
     ensures { IsTrue result → IsTrue (is_leaf (type_of array.now)) }
 {
     match array {

@@ -11,7 +11,7 @@ ghost use Rattle.polars_compare_nested.specs.Bits.{JoinsBits, JoinsLeafBits, Pre
 ghost use Rattle.polars_compare_nested.specs.Leaf.{is_leaf};
 
 use crate::downcast::downcast;
-use crate::leaf_windows::leaf_windows;
+use crate::leaf_windows::eq_leaves;
 use polars_arrays_bits::error::ComputeError;
 use polars_arrays_bits::mutable_bitmap::MutableBitmap;
 use polars_arrays_flat::primitive::PrimitiveArray;
@@ -79,7 +79,7 @@ fn and_by_bitmap(
         (λ _. JoinsLeafBits same_leaf left.now a right.now b bits.old bits.new) IsMemory }
 {
     let n = bits.len();
-    let same = leaf_windows(alloc, left, a, right, b, n)?;
+    let same = eq_leaves(alloc, left, a, right, b, n)?;
     bits.and_assign(&same);
     Ok(())
 }

@@ -11,7 +11,6 @@ ghost use Rattle.polars_compare_leaves.specs.Equality.{MissingEquality};
 ghost use Rattle.polars_compare_nested.specs.Headline.{IsEquality, SameRows, SameTrees};
 ghost use Rattle.polars_compare_nested.specs.Tally.{tally};
 
-use crate::laws::law_tally;
 use crate::leaf_kernel::LeafKernel;
 use crate::windows::equal_windows;
 use polars_arrays_bits::bitmap::Bitmap;
@@ -24,7 +23,7 @@ use std::alloc::Global;
 /// alone, and leaves are the same if `steps` says so.
 ///
 /// Leaves go to the `LeafKernel` that the caller passes as `steps`. The counter `Steps` is itself
-/// one: its `leaf_eq` calls `leaf_windows` (`leaf_windows.rt`) and adds the rows.
+/// one: its `leaf_eq` calls `eq_leaves` (`leaf_windows.rt`) and adds the rows.
 ///
 /// The count increases by exactly one for each leaf slot of the left array that is compared with
 /// one of the right: at most the leaf slots of either array, with a dictionary's entries counted
@@ -54,8 +53,6 @@ pub fn array_tot_eq_missing_kernel_counted<K: LeafKernel>(
         (len_of right.now) }
     ensures kept { K.count steps.old ≤ K.count steps.new }
 {
-    // For the proof: does nothing at run time.
-    law_tally();
     equal_windows(alloc, left, 0, right, 0, left.len(), steps)
 }
 
@@ -84,8 +81,6 @@ pub fn array_tot_ne_missing_kernel_counted<K: LeafKernel>(
         (len_of right.now) }
     ensures kept { K.count steps.old ≤ K.count steps.new }
 {
-    // For the proof: does nothing at run time.
-    law_tally();
     let same = equal_windows(alloc, left, 0, right, 0, left.len(), steps)?;
     same.not(alloc)
 }
@@ -116,7 +111,7 @@ pub fn array_tot_eq_missing_kernel_with_steps(
         (len_of right.now) }
     ensures kept { steps.old ≤ steps.new }
 {
-    array_tot_eq_missing_kernel_counted(alloc, left, right, steps)
+    equal_windows(alloc, left, 0, right, 0, left.len(), steps)
 }
 
 /// Returns which rows of two arrays of one type and length are the same tree; null is the same as

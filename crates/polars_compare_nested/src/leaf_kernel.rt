@@ -11,7 +11,7 @@ ghost use Rattle.polars_compare_nested.specs.Windows.{AreWindows};
 
 use crate::joined_leaves::and_leaf_windows;
 use crate::leaf_rows::leaf_rows;
-use crate::leaf_windows::leaf_windows;
+use crate::leaf_windows::eq_leaves;
 use crate::leaf_words::leaf_word;
 use polars_arrays_bits::bit_mask::BitMask;
 use polars_arrays_bits::bitmap::Bitmap;
@@ -136,7 +136,7 @@ impl LeafKernel for Steps {
         b: usize,
         n: usize,
     ) -> Result<Bitmap, ComputeError> {
-        let bits = leaf_windows(alloc, left, a, right, b, n)?;
+        let bits = eq_leaves(alloc, left, a, right, b, n)?;
         self.add(n);
         Ok(bits)
     }

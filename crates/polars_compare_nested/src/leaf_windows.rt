@@ -4,7 +4,6 @@ ghost use Rattle.std.specs.Prelude.{◌≡◌, ◌+◌, ◌≤◌, IsTrue, lengt
 ghost use Rattle.polars_arrays_bits.specs.Errors.{IsMemory};
 ghost use Rattle.polars_arrays_bytes.specs.OffsetStrings.{offset_rows, row_count};
 ghost use Rattle.polars_arrays_bytes.specs.SizedStrings.{sized_rows};
-ghost use Rattle.polars_arrays_flat.specs.ArrayRows.{number_rows, truth_rows};
 ghost use Rattle.polars_arrays_flat.specs.StoredRows.{row as row_at};
 ghost use Rattle.polars_arrays_nested.specs.Lengths.{len_of};
 ghost use Rattle.polars_arrays_nested.specs.Types.{type_of};
@@ -14,17 +13,13 @@ ghost use Rattle.polars_compare_nested.specs.Bits.{LeafBits, PresentBits};
 ghost use Rattle.polars_compare_nested.specs.Leaf.{is_leaf};
 
 use crate::downcast::downcast;
-use crate::sized::compare_sized_windows;
 use polars_arrays_bits::bitmap::Bitmap;
 use polars_arrays_bits::error::ComputeError;
 use polars_arrays_bytes::binary::BinaryArray;
 use polars_arrays_bytes::fixed_size::FixedSizeBinaryArray;
 use polars_arrays_bytes::text::Utf8Array;
-use polars_arrays_flat::boolean::BooleanArray;
-use polars_arrays_flat::primitive::PrimitiveArray;
 use polars_arrays_nested::any_array::AnyArray;
 use polars_arrays_numbers::comparison::Equal;
-use polars_arrays_numbers::native_type::NativeType;
 use polars_arrays_numbers::offset::Offset;
 use polars_arrays_numbers::steps::Steps;
 use polars_arrays_views::binary_view::BinaryViewArray;
@@ -32,14 +27,19 @@ use polars_arrays_views::text_view::Utf8ViewArray;
 use polars_compare_leaves::booleans::compare_truth_windows;
 use polars_compare_leaves::bytes::compare_byte_windows;
 use polars_compare_leaves::numbers::compare_number_windows;
-use polars_compare_views::windows::compare_view_windows;
+use polars_compare_leaves::sized::compare_sized_windows;
+use polars_compare_leaves::view_windows::compare_view_windows;
 use std::alloc::Global;
 
-// Compares windows of two arrays of one kind of leaf by the function named before the kind.
+// Compares windows of two arrays of one kind of leaf by the function named before the kind. The
+// functions of the first list take the comparison as an argument.
 macro_rules! compare_leaves {
     (($alloc:expr, $left:expr, $a:expr, $right:expr, $b:expr, $n:expr),
-        $($windows:ident: $($kind:ident)+);+) => {
+        [$($compare:ident: $($of:ident)+);+],
+        [$($windows:ident: $($kind:ident)+);+]) => {
         match $left {
+            $($(AnyArray::$of(left) =>
+                $compare($alloc, &Equal, left, $a, downcast!($right, $of), $b, $n),)+)+
             $($(AnyArray::$kind(left) =>
                 $windows($alloc, left, $a, downcast!($right, $kind), $b, $n),)+)+
             _ => unreachable!(),
@@ -52,7 +52,7 @@ macro_rules! compare_leaves {
 /// arbitrary where one of the rows is masked. The error is `Memory`.
 #[tactic(auto, using(crate::proofs::Strings::counts, crate::proofs::Cases::cases))]
 #[inline]
-pub(crate) fn leaf_windows(
+pub(crate) fn eq_leaves(
     alloc: Global,
     left: &AnyArray,
     a: usize,
@@ -68,58 +68,24 @@ pub(crate) fn leaf_windows(
 {
     compare_leaves!(
         (alloc, left, a, right, b, n),
-        truth_windows: Boolean;
-        number_windows: Int8 Int16 Int32 Int64 Int128 UInt8 UInt16 UInt32 UInt64 UInt128;
-        string_windows: Binary LargeBinary;
-        utf8_windows: Utf8 LargeUtf8;
-        view_windows: BinaryView;
-        text_windows: Utf8View;
-        sized_windows: FixedSizeBinary
+        [
+            compare_truth_windows: Boolean;
+            compare_number_windows: Int8 Int16 Int32 Int64 Int128 UInt8 UInt16 UInt32 UInt64 UInt128
+        ],
+        [
+            eq_strings: Binary LargeBinary;
+            utf8_windows: Utf8 LargeUtf8;
+            eq_views: BinaryView;
+            text_windows: Utf8View;
+            eq_sized_strings: FixedSizeBinary
+        ]
     )
-}
-
-// Compares windows of truth values.
-#[inline]
-fn truth_windows(
-    alloc: Global,
-    left: &BooleanArray,
-    a: usize,
-    right: &BooleanArray,
-    b: usize,
-    n: usize,
-) -> Result<Bitmap, ComputeError>
-    requires left_in { a + n ≤ length left.now.values }
-    requires right_in { b + n ≤ length right.now.values }
-    ensures { MatchResult result
-        (PresentBits same_leaf (row_at (truth_rows left.now)) left.now.validity a
-        (row_at (truth_rows right.now)) right.now.validity b n) IsMemory }
-{
-    compare_truth_windows(alloc, &Equal, left, a, right, b, n)
-}
-
-// Compares windows of numbers.
-#[inline]
-fn number_windows<T: NativeType>(
-    alloc: Global,
-    left: &PrimitiveArray<T>,
-    a: usize,
-    right: &PrimitiveArray<T>,
-    b: usize,
-    n: usize,
-) -> Result<Bitmap, ComputeError>
-    requires left_in { a + n ≤ length left.now.values }
-    requires right_in { b + n ≤ length right.now.values }
-    ensures { MatchResult result
-        (PresentBits same_leaf (row_at (number_rows T.value left.now)) left.now.validity a
-        (row_at (number_rows T.value right.now)) right.now.validity b n) IsMemory }
-{
-    compare_number_windows(alloc, &Equal, left, a, right, b, n)
 }
 
 // Compares windows of byte strings between offsets.
 #[tactic(auto, using(crate::proofs::Strings::counts))]
 #[inline]
-fn string_windows<O: Offset>(
+fn eq_strings<O: Offset>(
     alloc: Global,
     left: &BinaryArray<O>,
     a: usize,
@@ -152,12 +118,12 @@ fn utf8_windows<O: Offset>(
         (PresentBits same_leaf (row_at (offset_rows O.value left.now)) left.now.validity a
         (row_at (offset_rows O.value right.now)) right.now.validity b n) IsMemory }
 {
-    string_windows(alloc, left.as_binary(), a, right.as_binary(), b, n)
+    eq_strings(alloc, left.as_binary(), a, right.as_binary(), b, n)
 }
 
 // Compares windows of byte strings of one size.
 #[tactic(auto, using(crate::proofs::Strings::counts))]
-fn sized_windows(
+fn eq_sized_strings(
     alloc: Global,
     left: &FixedSizeBinaryArray,
     a: usize,
@@ -190,13 +156,13 @@ fn text_windows(
         (PresentBits same_leaf (row_at (view_rows left.now)) left.now.validity a
         (row_at (view_rows right.now)) right.now.validity b n) IsMemory }
 {
-    view_windows(alloc, left.as_binview(), a, right.as_binview(), b, n)
+    eq_views(alloc, left.as_binview(), a, right.as_binview(), b, n)
 }
 
 // Compares windows of byte strings in views. The count of rows looked up in buffers is dropped:
 // this crate counts comparisons of leaves.
 #[inline]
-fn view_windows(
+fn eq_views(
     alloc: Global,
     left: &BinaryViewArray,
     a: usize,

@@ -13,7 +13,7 @@ ghost use Rattle.polars_compare_nested.specs.Bits.{LeafWord, PresentBits};
 ghost use Rattle.polars_compare_nested.specs.Leaf.{is_leaf};
 
 use crate::downcast::downcast;
-use crate::leaf_windows::leaf_windows;
+use crate::leaf_windows::eq_leaves;
 use polars_arrays_bits::bit_mask::BitMask;
 use polars_arrays_bits::error::ComputeError;
 use polars_arrays_flat::primitive::PrimitiveArray;
@@ -77,7 +77,7 @@ fn word_of_windows(
     requires few { n ≤ 64 }
     ensures { MatchResult result (LeafWord same_leaf left.now a right.now b n) IsMemory }
 {
-    let bits = leaf_windows(alloc, left, a, right, b, n)?;
+    let bits = eq_leaves(alloc, left, a, right, b, n)?;
     Ok(BitMask::from_bitmap(&bits).few_bits(0, n))
 }
 

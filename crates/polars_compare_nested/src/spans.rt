@@ -110,9 +110,9 @@ impl<O: Offset> TruthValues for ListsOfWidth<'_, O> {
     }
 }
 
-// Returns which of the `n` rows from row `at` on are present, as the bits of a word.
+/// Returns which of the `n` rows from row `at` on are present, as the bits of a word.
 #[inline(always)]
-fn present_bits(validity: Option<&Bitmap>, at: usize, n: usize) -> u64
+pub(crate) fn present_bits(validity: Option<&Bitmap>, at: usize, n: usize) -> u64
     requires within { IfSome (option_copied validity) (λ bits. at + n ≤ length bits) }
     requires few { n ≤ 64 }
     ensures { (i : ℕ) → i < n → is_bit result i

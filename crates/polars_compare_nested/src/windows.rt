@@ -7,7 +7,7 @@
 //! adjacent on both sides; a dictionary by one pair of entries for each row.
 //!
 //! Leaves go to the `LeafKernel` that the caller passes as `steps`. The counter `Steps` is itself
-//! one: its `leaf_eq` calls `leaf_windows` (`leaf_windows.rt`) and adds the rows.
+//! one: its `leaf_eq` calls `eq_leaves` (`leaf_windows.rt`) and adds the rows.
 
 ghost use Rattle.std.specs.Prelude.{◌≡◌, ◌+◌, ◌-◌, ◌<◌, ◌≤◌, IsTrue, length, IfOk, MatchResult};
 ghost use Rattle.polars_arrays_bits.specs.Errors.{IsMemory};
@@ -24,8 +24,9 @@ ghost use Rattle.polars_compare_nested.specs.Windows.{AreWindows, Compares};
 
 use crate::downcast::{as_dictionary, as_fixed_size_list, as_list, as_struct};
 use crate::entries::row_entries;
-use crate::few_leaves::{are_few_leaves, are_leaves, same_few};
+use crate::few_leaves::{are_few_leaves, are_leaves, has_leaves, same_few};
 use crate::items::item_window;
+use crate::leaf_entries::eq_leaf_entries;
 use crate::leaf_kernel::LeafKernel;
 use crate::masks::join_windows;
 use crate::runs::{Matches, NextRows, next_rows, push_rows, push_word};
@@ -60,44 +61,27 @@ pub fn equal_windows<K: LeafKernel>(
     ensures { Compares (SameBits K.agree) left.now a right.now b n (K.count steps.old)
         (K.count steps.new) result }
 {
-    let raw = raw_windows(alloc, left, a, right, b, n, steps)?;
-    join_windows(alloc, raw, left, a, right, b)
-}
-
-// Returns which rows of two windows are the same, without reading the validities of the two arrays.
-// If a row is masked on either side, the bit is arbitrary.
-#[cycle(equal)]
-fn raw_windows<K: LeafKernel>(
-    alloc: Global,
-    left: &AnyArray,
-    a: usize,
-    right: &AnyArray,
-    b: usize,
-    n: usize,
-    steps: &mut K,
-) -> Result<Bitmap, ComputeError>
-    requires { AreWindows left.now a right.now b n }
-    ensures { Compares (RawBits K.agree) left.now a right.now b n (K.count steps.old)
-        (K.count steps.new) result }
-{
-    match left {
+    // Each arm returns which rows are the same without reading the validities of the two arrays.
+    // If a row is masked on either side, its bit is arbitrary.
+    let raw = match left {
         AnyArray::Null(_) => Bitmap::new_with_value(alloc, true, n),
-        AnyArray::List(left) => list_windows(alloc, left, a, as_list(right), b, n, steps),
+        AnyArray::List(left) => eq_lists(alloc, left, a, as_list(right), b, n, steps),
         AnyArray::FixedSizeList(left) => {
-            fixed_size_list_windows(alloc, left, a, as_fixed_size_list(right), b, n, steps)
+            eq_fixed_size_lists(alloc, left, a, as_fixed_size_list(right), b, n, steps)
         }
-        AnyArray::Struct(left) => struct_windows(alloc, left, a, as_struct(right), b, n, steps),
+        AnyArray::Struct(left) => eq_structs(alloc, left, a, as_struct(right), b, n, steps),
         AnyArray::Dictionary(left) => {
-            dictionary_windows(alloc, left, a, as_dictionary(right), b, n, steps)
+            eq_dictionaries(alloc, left, a, as_dictionary(right), b, n, steps)
         }
         _ => steps.leaf_eq(alloc, left, a, right, b, n),
-    }
+    };
+    join_windows(alloc, raw?, left, a, right, b)
 }
 
 /// Returns which lists of two windows have equally many and the same items, in order. If a list is
 /// masked on either side, the bit is arbitrary. The error is `Memory`.
 #[cycle(equal)]
-pub fn list_windows<K: LeafKernel>(
+pub fn eq_lists<K: LeafKernel>(
     alloc: Global,
     left: &ListArray,
     a: usize,
@@ -191,7 +175,7 @@ fn push_next<K: LeafKernel>(
 /// Returns which lists of one width of two windows have the same items in order. If a list is
 /// masked on either side, the bit is arbitrary. The error is `Memory`.
 #[cycle(equal)]
-pub fn fixed_size_list_windows<K: LeafKernel>(
+pub fn eq_fixed_size_lists<K: LeafKernel>(
     alloc: Global,
     left: &FixedSizeListArray,
     a: usize,
@@ -223,7 +207,7 @@ pub fn fixed_size_list_windows<K: LeafKernel>(
 /// either side, the bit is arbitrary. The bits of the first column are reused for the result. The
 /// error is `Memory`.
 #[cycle(equal)]
-pub fn struct_windows<K: LeafKernel>(
+pub fn eq_structs<K: LeafKernel>(
     alloc: Global,
     left: &StructArray,
     a: usize,
@@ -281,9 +265,10 @@ fn join_column<K: LeafKernel>(
 }
 
 /// Returns which keys of two windows name entries that are the same. If a key is masked on either
-/// side, the bit is arbitrary. The error is `Memory`.
+/// side, the bit is arbitrary. Entries that are leaves are compared in blocks of rows. The error is
+/// `Memory`.
 #[cycle(equal)]
-pub fn dictionary_windows<K: LeafKernel>(
+pub fn eq_dictionaries<K: LeafKernel>(
     alloc: Global,
     left: &DictionaryArray,
     a: usize,
@@ -296,6 +281,9 @@ pub fn dictionary_windows<K: LeafKernel>(
     ensures { Compares (RawBits K.agree) (Dictionary left.now) a (Dictionary right.now) b n
         (K.count steps.old) (K.count steps.new) result }
 {
+    if has_leaves(left.values()) {
+        return eq_leaf_entries(alloc, left, a, right, b, n, steps);
+    }
     // For the proof: both lengths fit in 64 bits, so the places don't overflow.
     let (_rows, _others) = (left.keys().len(), right.keys().len());
     let mut bits = BitmapBuilder::with_capacity(alloc, n)?;

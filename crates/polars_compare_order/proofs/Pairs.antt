@@ -4,7 +4,7 @@ use Rattle.std.proofs.lemmas.List.{get_or-map, length-map}
 use Rattle.polars_arrays_flat.specs.Row.{Row, Null, Bytes}
 use Rattle.polars_arrays_flat.specs.StoredRows.{row, byte_slots}
 use Rattle.polars_compare_leaves.specs.Order.{RawOrder}
-use Rattle.polars_compare_views.specs.Pairs.{ComparesPairs}
+use Rattle.polars_compare_leaves.specs.Pairs.{ComparesPairs}
 
 from-zero : (i : ℕ) → 0 + i ≡ i
 from-zero i = omega arith

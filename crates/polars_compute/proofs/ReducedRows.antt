@@ -15,8 +15,8 @@ use Rattle.polars_compare_extremes.specs.Extremes.{FindsBest, IsBest, NonePresen
 use Rattle.polars_compare_extremes.specs.Scalars.{AnswersKind, AreExtremes, scalar_kind, scalar_row}
 use Rattle.polars_compare_extremes.specs.declared.scalar.AnyScalar.{AnyScalar}
 use Rattle.polars_compute.specs.ReductionLaws.{AnyBothByRows, AnyExtremesByRows, AreBothOf, BothByRows, CountsByRows, ExtremesByRows, IsExtremeOf, IsScalarOf, ReductionsByRows, SumsByRows, both, scalar_told, told}
-use Rattle.polars_compute_bits.specs.Bitwise.{counted, reduced}
-use Rattle.polars_compute_bits.specs.Sum.{total}
+use Rattle.polars_compute_reductions.specs.Bitwise.{counted, reduced}
+use Rattle.polars_compute_reductions.specs.Sum.{total}
 
 pub sums-by_rows : (least : ℤ) (width : ℕ) → SumsByRows least width
 sums-by_rows least width a a' sum sum' same is is' =

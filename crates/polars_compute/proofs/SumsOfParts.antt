@@ -7,7 +7,7 @@ use Rattle.polars_arrays_flat.specs.Row.{Row}
 use Rattle.polars_arrays_numbers.specs.Wrapping.{wrapped}
 use Rattle.polars_arrays_numbers.specs.WrappingLaws.{wrapped-add}
 use Rattle.polars_compute.specs.SumLaw.{SumsJoin}
-use Rattle.polars_compute_bits.specs.Sum.{total}
+use Rattle.polars_compute_reductions.specs.Sum.{total}
 
 total-append : (rows more : List Row) → total (rows ++ more) ≡ total rows +ℤ total more
 total-append [] more = omega (arith, ints)

@@ -2,8 +2,8 @@ pub use Rattle.polars_compute_arithmetic.specs.Maps
 pub use Rattle.polars_compute_arithmetic.specs.Operations
 pub use Rattle.polars_compute_arithmetic.specs.Quotients
 pub use Rattle.polars_compute_arithmetic.specs.Results
-pub use Rattle.polars_compute_bits.specs.Bitwise
-pub use Rattle.polars_compute_bits.specs.Sum
+pub use Rattle.polars_compute_reductions.specs.Bitwise
+pub use Rattle.polars_compute_reductions.specs.Sum
 pub use Rattle.polars_compute_slots.specs.State
 pub use Rattle.polars_compute_unique.specs.Dictionaries
 pub use Rattle.polars_compute_unique.specs.Sorted

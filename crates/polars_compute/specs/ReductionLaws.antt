@@ -14,8 +14,8 @@ use Rattle.polars_compare.specs.RowsLaws.{Stored, rows_of}
 use Rattle.polars_compare_extremes.specs.Extremes.{FindsBest, IsGreatest, IsLeast, NonePresent}
 use Rattle.polars_compare_extremes.specs.Scalars.{AnswersKind, AreExtremes, scalar_kind, scalar_row}
 use Rattle.polars_compare_extremes.specs.declared.scalar.AnyScalar.{AnyScalar}
-use Rattle.polars_compute_bits.specs.Bitwise.{AreCounts, reduced}
-use Rattle.polars_compute_bits.specs.Sum.{total}
+use Rattle.polars_compute_reductions.specs.Bitwise.{AreCounts, reduced}
+use Rattle.polars_compute_reductions.specs.Sum.{total}
 
 -- two columns with the same rows, however they are stored, have equal results. `Answers` says that
 -- a result is right for rows, and `read` gives the part of it that a caller sees

@@ -3,6 +3,7 @@
 
 pub use polars_compare_equality::borrowed::{BytesEqKernel, TextEqKernel};
 pub use polars_compare_equality::kernel::TotalEqKernel;
+pub use polars_compare_leaves::followed::FollowedKernel;
 pub use polars_compare_nested::kernels::{
     array_tot_eq_missing_kernel, array_tot_eq_missing_kernel_counted,
     array_tot_eq_missing_kernel_with_steps, array_tot_ne_missing_kernel,
@@ -11,4 +12,3 @@ pub use polars_compare_nested::kernels::{
 pub use polars_compare_nested::leaf_kernel::LeafKernel;
 pub use polars_compare_order::borrowed::{BytesOrdKernel, TextOrdKernel};
 pub use polars_compare_order::kernel::TotalOrdKernel;
-pub use polars_compare_views::followed::FollowedKernel;

@@ -18,14 +18,14 @@ ghost use Rattle.polars_compute.specs.StateLaws.{StaysWhenAppended, StaysWhenMer
 ghost use Rattle.polars_compute.specs.SumLaw.{SumsJoin};
 
 use polars_compute_arithmetic::arithmetic::pl_num::PlNumArithmetic;
-use polars_compute_bits::wrapping::WrappingNumber;
+use polars_compute_reductions::wrapping::WrappingNumber;
 
 /// States that results depend on rows alone, however they are stored and masked. Arrays with the
 /// same rows get the same rows of functions, operations and counts, the same sum, the same bits of
 /// a reduction, and the same extremes: of numbers, of truth values, of byte strings and texts, and
 /// of arrays of any kind, of one type. They have the same effect on a state of distinct values,
 /// which reads the same number of their rows.
-pub fn law_3<T: PlNumArithmetic>()
+pub fn law_rows_alone<T: PlNumArithmetic>()
     ensures functions { AnswersByRows T.value T.low (bit_len T.width) }
     ensures operations { ResultsByRows T.value T.low (bit_len T.width) }
     ensures counts { CountsByRows (bit_len T.width) }
@@ -44,7 +44,7 @@ pub fn law_3<T: PlNumArithmetic>()
 
 /// States that the floor quotient by a divisor other than 0, times the divisor, plus the modulus,
 /// wrapped, is the dividend.
-pub fn law_4<T: PlNumArithmetic>()
+pub fn law_divides_back<T: PlNumArithmetic>()
     ensures { DividesBack T.low T.high (bit_len T.width) }
 {}
 
@@ -62,19 +62,20 @@ pub fn law_quotients()
 
 /// States that an operation on a column and a number has the result of the operation on the column
 /// and one that repeats the number.
-pub fn law_5<T: PlNumArithmetic>()
+pub fn law_repeated_number<T: PlNumArithmetic>()
     ensures right { NumberOnRight T.low (bit_len T.width) }
     ensures left { NumberOnLeft T.low (bit_len T.width) }
 {}
 
-/// States that the sum of adjacent parts, wrapped, is the sum of their sums, wrapped.
-pub fn law_6<T: WrappingNumber>()
+/// States that a column can be summed in chunks: the wrapped sum of two lists of rows, one after
+/// the other, is the wrapped sum of their two wrapped sums.
+pub fn law_sums_join<T: WrappingNumber>()
     ensures { SumsJoin T.low (bit_len T.width) }
 {}
 
 /// States that merging states of one range is commutative, associative and idempotent, and that two
 /// new states merge to the one to which all arrays of both are appended.
-pub fn law_7()
+pub fn law_states_merge()
     ensures either_way { MergesEitherWay }
     ensures in_groups { MergesInGroups }
     ensures with_itself { MergesWithItself }
@@ -84,7 +85,7 @@ pub fn law_7()
 /// States that once a state has seen all values of its range and a null, no array that it accepts
 /// and no state of its range changes its result. A state of keys has seen all if it has in the
 /// reading in which keys to null entries are null.
-pub fn law_8()
+pub fn law_all_seen()
     ensures appended { StaysWhenAppended }
     ensures merged { StaysWhenMerged }
     ensures read_appended { ReadStaysWhenAppended }

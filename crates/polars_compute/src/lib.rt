@@ -9,7 +9,7 @@
 #![tactic(auto)]
 
 pub use polars_compute_arithmetic::{arithmetic, arity};
-pub use polars_compute_bits::{bitwise, sum};
+pub use polars_compute_reductions::{bitwise, sum};
 
 pub mod comparisons;
 pub mod laws;

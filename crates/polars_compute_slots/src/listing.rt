@@ -37,7 +37,7 @@ pub fn count_set<S: Slots>(slots: &S, count: usize) -> usize
 }
 
 /// Returns the number of slots that are set, including that of null.
-pub fn count_rows<S: Slots>(slots: &S, count: usize) -> usize
+pub fn count_finalised<S: Slots>(slots: &S, count: usize) -> usize
     requires size { length (S.set_slots slots.now) ≡ count + 1 }
     requires few { count + 1 < 2 ^ 64 }
     ensures { (least : ℤ) (put : ℤ → Row) → result

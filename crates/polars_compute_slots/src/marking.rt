@@ -1,4 +1,4 @@
-//! Marking of rows in slots.
+//! Marks the values that occur, one slot for each value of a range.
 
 ghost use Rattle.std.specs.Prelude.{◌≡◌, ◌+◌, ◌≤◌, length};
 ghost use Rattle.polars_arrays_flat.specs.ArrayRows.{number_rows};
@@ -22,7 +22,7 @@ const BLOCK: usize = 512;
 // Number of rows read at once if some are null: those of a word.
 const WORD_ROWS: usize = 64;
 
-// Sets the slots of numbers.
+// Sets the slot of each number.
 #[inline(always)]
 fn mark_all<T: UniqueNumber, S: Slots>(slots: &mut S, span: &Span<T>, numbers: &[T])
     requires size { length (S.set_slots slots.old) ≡ span.now.count + 1 }

@@ -47,7 +47,8 @@ pub struct ReadCounts {
 }
 
 impl ReadCounts {
-    // Counts one more value, given whether it means null and whether it was seen.
+    // Adds one slot to the counts: `is_null` says that the slot stands for null, `is_seen` that a row
+    // has it.
     fn add(&mut self, is_null: bool, is_seen: bool)
         requires values { self.old.values + 1 < 2 ^ 64 }
         requires seen { self.old.seen + 1 < 2 ^ 64 }

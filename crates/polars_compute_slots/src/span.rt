@@ -34,7 +34,7 @@ fn distance<T: UniqueNumber>(least: T, number: T) -> usize
 
 /// Returns whether the numbers from `least` to `greatest` and null can have a slot each: they are
 /// in order, and the number of slots fits in 64 bits.
-pub fn range_fits<T: UniqueNumber>(least: T, greatest: T) -> bool
+pub fn span_fits<T: UniqueNumber>(least: T, greatest: T) -> bool
     ensures { IsTrue result ↔ RangeFits (T.value least) (T.value greatest) }
 {
     match usize::try_from(greatest.whole() - least.whole()) {

@@ -19,12 +19,12 @@ use polars_arrays_bits::mutable_bitmap::MutableBitmap;
 use polars_arrays_flat::primitive::PrimitiveArray;
 use polars_arrays_numbers::steps::Steps;
 use polars_compute_slots::accepting::accepts_rows;
-use polars_compute_slots::listing::{all_set, count_rows, count_set, least_from, list_set};
+use polars_compute_slots::listing::{all_set, count_finalised, count_set, least_from, list_set};
 use polars_compute_slots::marking::mark_rows;
 use polars_compute_slots::number::UniqueNumber;
 use polars_compute_slots::reading::{NullValues, ReadCounts, list_read, read_counts};
 use polars_compute_slots::slots::{Slots, WORD_SLOTS, WordSlots};
-use polars_compute_slots::span::{Span, range_fits as span_fits};
+use polars_compute_slots::span::{Span, span_fits};
 use std::alloc::Global;
 use std::marker::Model;
 
@@ -235,8 +235,8 @@ impl<T: UniqueNumber> RangedUniqueKernel for PrimitiveRangedUniqueState<T> {
 
     fn finalize_n_unique(&self) -> usize {
         match &self.seen {
-            Seen::Few(slots) => count_rows(slots, self.span.count),
-            Seen::Many(slots) => count_rows(slots, self.span.count),
+            Seen::Few(slots) => count_finalised(slots, self.span.count),
+            Seen::Many(slots) => count_finalised(slots, self.span.count),
         }
     }
 

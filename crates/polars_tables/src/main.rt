@@ -25,7 +25,7 @@ A command is an operation, a type, and rows, with a bar between two lists of row
     add i8 127 null | 1 2       -128 null
     eq_missing i32 1 null | 1 null       true true
 
-docs/LANGUAGE.md has all operations. A line that can't be answered prints
+docs/LINES.md has all operations. A line that can't be answered prints
 `line N: refused: WORD`, and the status is then 1.";
 
 /// Returns the words after the program's name.

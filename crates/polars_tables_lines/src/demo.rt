@@ -3,8 +3,13 @@
 ghost use Rattle.std.specs.Prelude.{◌≡◌, ◌⊎◌, IfErr};
 ghost use Rattle.std.specs.Io.KnownBytes.{Keeps};
 
+mod arrays;
+mod cases;
+mod fault;
+mod text;
+
+use crate::demo::text::demo_text;
 use crate::running::{RunError, write_text};
-use polars_tables_demo::text::demo_text;
 use std::alloc::Global;
 use std::io::Write;
 

@@ -12,8 +12,8 @@ use Rattle.num_traits.specs.Ints.{unsigned-size, unsigned-wrap_fits}
 use Rattle.polars_arrays_flat.specs.Row.{Row, Int}
 use Rattle.polars_arrays_numbers.specs.Wrapping.{IsWrapped, wrapped}
 use Rattle.polars_arrays_words.specs.Bits.{first_of, is_bit}
-use Rattle.polars_compute_bits.specs.Bitwise.{number_bits, pattern}
-use Rattle.polars_compute_bits.specs.BitLaws.{pattern-below}
+use Rattle.polars_compute_reductions.specs.Bitwise.{number_bits, pattern}
+use Rattle.polars_compute_reductions.specs.BitLaws.{pattern-below}
 use Rattle.polars_tables_rows.specs.declared.row_type.RowType.{RowType}
 use Rattle.polars_tables_rows.specs.Types.{is_boolean, least_in, width_of}
 use Rattle.polars_tables_operations.specs.Bits.{bits_row, bits_value}

@@ -9,7 +9,7 @@ use Rattle.polars_arrays_flat.specs.Validity.{HasBits, is_present}
 use Rattle.polars_compare_leaves.specs.Sameness.{same_row, other_row}
 use Rattle.polars_compare_leaves.specs.Equality.{RawEquality, MissingEquality, EqualRows}
 use Rattle.polars_compare_leaves.specs.Order.{RawOrder}
-use Rattle.polars_tables_operations.specs.declared.operation.Comparison.{Comparison}
+use Rattle.polars_tables_operations.specs.declared.operation.ComparisonKind.{ComparisonKind}
 use Rattle.polars_tables_operations.specs.Comparing.{if_present, compared, ComparesRows}
 use Rattle.polars_tables_operations.specs.Stored.{AreValues, StoresValues}
 use Rattle.polars_tables_rows.specs.RowsLaws.{length-rows, row-at}
@@ -93,7 +93,7 @@ scalar_setting value_row lm ls x v b s = record {
 
 module _ {A : Type 0} (value_row : A → Row) (lm rm : Option (List Bool)) (ls rs : List Row) (given : Setting value_row lm rm ls rs) where
   -- the bits of a test
-  from_order : (bits : List Bool) (comparison : Comparison) (test : Row → Row → Bool) → ((x y : Row) → compared comparison x y ≡ if_present test x y) → RawOrder test lm rm ls rs bits → ComparesRows comparison (rows_under lm ls) (rows_under rm rs) bits
+  from_order : (bits : List Bool) (comparison : ComparisonKind) (test : Row → Row → Bool) → ((x y : Row) → compared comparison x y ≡ if_present test x y) → RawOrder test lm rm ls rs bits → ComparesRows comparison (rows_under lm ls) (rows_under rm rs) bits
   from_order bits comparison test is o =
       let ll = length-rows lm ls given.left_bits in
       record {
@@ -120,7 +120,7 @@ module _ {A : Type 0} (value_row : A → Row) (lm rm : Option (List Bool)) (ls r
   truth_is b truth e = cc
 
   -- the bits of missing equality and inequality
-  from_missing : (bits : List Bool) (told : Bool) (P : Type 0) → P → (comparison : Comparison) → ((x y : Row) → compared comparison x y ≡ Truth (if told then same_row x y else other_row x y)) → MissingEquality told P (rows_under lm ls) (rows_under rm rs) bits → ComparesRows comparison (rows_under lm ls) (rows_under rm rs) bits
+  from_missing : (bits : List Bool) (told : Bool) (P : Type 0) → P → (comparison : ComparisonKind) → ((x y : Row) → compared comparison x y ≡ Truth (if told then same_row x y else other_row x y)) → MissingEquality told P (rows_under lm ls) (rows_under rm rs) bits → ComparesRows comparison (rows_under lm ls) (rows_under rm rs) bits
   from_missing bits told P one_type comparison is m =
       let ll = length-rows lm ls given.left_bits in
       record {
@@ -138,7 +138,7 @@ module _ {A : Type 0} (value_row : A → Row) (lm rm : Option (List Bool)) (ls r
             bit ∙ truth_is _ truth f;
       }
 
-  module _ (r : Result (List Bool) ComputeError) (comparison : Comparison) where
+  module _ (r : Result (List Bool) ComputeError) (comparison : ComparisonKind) where
     pub order_result : (test : Row → Row → Bool) → ((x y : Row) → compared comparison x y ≡ if_present test x y) → MatchResult r (RawOrder test lm rm ls rs) IsMemory → MatchResult r (ComparesRows comparison (rows_under lm ls) (rows_under rm rs)) IsMemory
     order_result test is h = MatchResult-weaker r h (λ bits o. from_order bits comparison test is o) (λ e m. m)
 

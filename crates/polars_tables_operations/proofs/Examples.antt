@@ -6,7 +6,7 @@ use Rattle.polars_arrays_flat.specs.Row.{Null, Int, Truth}
 use Rattle.polars_compare_leaves.specs.Order.{row_less, row_greater}
 use Rattle.polars_tables_operations.specs.declared.operation.BitCount.TheVariants.{LeadingZeros}
 use Rattle.polars_tables_operations.specs.declared.operation.Calculation.TheVariants.{Ordered}
-use Rattle.polars_tables_operations.specs.declared.operation.Comparison.TheVariants.{LessOrEqual, EqualMissing}
+use Rattle.polars_tables_operations.specs.declared.operation.ComparisonKind.TheVariants.{LessOrEqual, EqualMissing}
 use Rattle.polars_tables_operations.specs.declared.operation.Distinct.TheVariants.{Counted, Listed, PresentCounted}
 use Rattle.polars_tables_operations.specs.declared.operation.GeneralOperation.TheVariants.{Compare, Extremes, Reduce}
 use Rattle.polars_tables_operations.specs.declared.operation.NumericOperation.TheVariants.{Calculate, CalculateFromScalar, DistinctInRange, HasAllOfRange, Sum}

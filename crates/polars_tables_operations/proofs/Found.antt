@@ -4,7 +4,7 @@ use Rattle.std.specs.Prelude.{MatchOption, option_map}
 use Rattle.polars_arrays_flat.specs.Row.{Row}
 use Rattle.polars_compare_extremes.specs.Extremes.{FindsBest, IsGreatest, IsLeast, NonePresent}
 use Rattle.polars_compare_leaves.specs.Order.{row_greater, row_less}
-use Rattle.polars_compute_bits.specs.Bitwise.{reduced, row_bits}
+use Rattle.polars_compute_reductions.specs.Bitwise.{reduced, row_bits}
 use Rattle.polars_tables_rows.specs.declared.row_type.RowType.{RowType}
 use Rattle.polars_tables_rows.specs.Types.{width_of}
 use Rattle.polars_tables_operations.specs.Bits.{bits_row}

@@ -11,8 +11,8 @@ use Rattle.polars_compare_leaves.specs.Sameness.{same_row, other_row}
 use Rattle.polars_compare_leaves.specs.Order.{row_less, row_at_most, row_greater, row_at_least}
 use Rattle.polars_compute_arithmetic.specs.Maps.{joined_validity}
 use Rattle.polars_tables_rows.specs.RowsLaws.{length-rows, row-at, map-at}
-use Rattle.polars_tables_operations.specs.declared.operation.Comparison.{Comparison}
-use Rattle.polars_tables_operations.specs.declared.operation.Comparison.TheVariants.{Equal, Unequal, Less, LessOrEqual, Greater, GreaterOrEqual, EqualMissing, UnequalMissing}
+use Rattle.polars_tables_operations.specs.declared.operation.ComparisonKind.{ComparisonKind}
+use Rattle.polars_tables_operations.specs.declared.operation.ComparisonKind.TheVariants.{Equal, Unequal, Less, LessOrEqual, Greater, GreaterOrEqual, EqualMissing, UnequalMissing}
 use Rattle.polars_tables_operations.specs.Comparing.{if_present, compared, compared_rows, ComparesRows, is_missing, answer_validity}
 use Rattle.polars_tables_operations.specs.Stored.{AreValues, StoresValues}
 use Rattle.polars_tables_operations.proofs.Comparisons.{scalar_setting}
@@ -32,7 +32,7 @@ joined-bits None rm n l r = r
 joined-bits (Some left) None n l r = l
 joined-bits (Some left) (Some right) n l r = length-zip2 ◌&&◌ left right (l ∙ sym r) ∙ l
 
-pub answer-bits : (comparison : Comparison) (lm rm : Option (List Bool)) (n : ℕ) → HasBits n lm → HasBits n rm → HasBits n (answer_validity comparison lm rm)
+pub answer-bits : (comparison : ComparisonKind) (lm rm : Option (List Bool)) (n : ℕ) → HasBits n lm → HasBits n rm → HasBits n (answer_validity comparison lm rm)
 answer-bits comparison lm rm n l r = by_test (is_missing comparison) where
   by_test : (b : Bool) → HasBits n (cond b None (joined_validity lm rm))
   by_test true = tt
@@ -47,7 +47,7 @@ raw_answer test true true bit x y e f right = rw (e, f) (ap Truth (right (test x
 raw_answer test false q bit x y e f right = rw e refl
 raw_answer test true false bit x y e f right = rw (e, f) refl
 
-shown : (comparison : Comparison) (lm rm : Option (List Bool)) (n i : ℕ) (bits : List Bool) (x y : Row) → HasBits n lm → HasBits n rm → i < n → is_null x ≡ not (is_present lm i) → is_null y ≡ not (is_present rm i)
+shown : (comparison : ComparisonKind) (lm rm : Option (List Bool)) (n i : ℕ) (bits : List Bool) (x y : Row) → HasBits n lm → HasBits n rm → i < n → is_null x ≡ not (is_present lm i) → is_null y ≡ not (is_present rm i)
     → ((truth : Bool) → compared comparison x y ≡ Truth truth → slice_index_or bits i false ≡ truth)
     → kept (is_present (answer_validity comparison lm rm) i) (Truth (slice_index_or bits i false)) ≡ compared comparison x y
 shown Equal lm rm n i bits x y l r h e f right = ap (λ (b : Bool). kept b (Truth (slice_index_or bits i false))) (joined-at lm rm n i l r h) ∙ raw_answer same_row (is_present lm i) (is_present rm i) (slice_index_or bits i false) x y e f right
@@ -75,7 +75,7 @@ module _ {A : Type 0} (value_row : A → Row) (values : AreValues value_row) whe
       let x = v.at_each i h in
       ap is_null (row-at m slots i b h ∙ ap (λ (r : Row). kept (is_present m i) r) x.1) ∙ null_where (is_present m i) x.0
 
-  pub answers-are : (comparison : Comparison) (lm rm : Option (List Bool)) (ls rs : List Row) (bits : List Bool) → HasBits (length ls) lm → HasBits (length rs) rm → StoresValues value_row ls → StoresValues value_row rs → length rs ≡ length ls
+  pub answers-are : (comparison : ComparisonKind) (lm rm : Option (List Bool)) (ls rs : List Row) (bits : List Bool) → HasBits (length ls) lm → HasBits (length rs) rm → StoresValues value_row ls → StoresValues value_row rs → length rs ≡ length ls
       → ComparesRows comparison (rows_under lm ls) (rows_under rm rs) bits
       → rows_under (answer_validity comparison lm rm) (truth_slots bits) ≡ compared_rows comparison (rows_under lm ls) (rows_under rm rs)
   answers-are comparison lm rm ls rs bits lb rb lv rv long c =
@@ -100,7 +100,7 @@ module _ {A : Type 0} (value_row : A → Row) (values : AreValues value_row) whe
       ∙ sym (get_or-zip2 (compared comparison) left right i Null Null Null in_left (omega (arith, lr))))
 
 -- no validity masks a scalar
-pub scalar_answers-are : {A : Type 0} (value_row : A → Row) → AreValues value_row → (comparison : Comparison) (lm : Option (List Bool)) (ls : List Row) (x : A) (bits : List Bool) → HasBits (length ls) lm → StoresValues value_row ls
+pub scalar_answers-are : {A : Type 0} (value_row : A → Row) → AreValues value_row → (comparison : ComparisonKind) (lm : Option (List Bool)) (ls : List Row) (x : A) (bits : List Bool) → HasBits (length ls) lm → StoresValues value_row ls
     → ComparesRows comparison (rows_under lm ls) (replicate (length ls) (value_row x)) bits
     → rows_under (answer_validity comparison lm None) (truth_slots bits) ≡ compared_rows comparison (rows_under lm ls) (replicate (length (rows_under lm ls)) (value_row x))
 scalar_answers-are value_row values comparison lm ls x bits lb lv c =

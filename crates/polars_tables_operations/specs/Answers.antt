@@ -5,12 +5,12 @@ use Rattle.polars_arrays_flat.specs.Row.{Row, Int, Truth}
 use Rattle.polars_arrays_numbers.specs.Wrapping.{wrapped}
 use Rattle.polars_compare_leaves.specs.Order.{row_less, row_greater}
 use Rattle.polars_compute_arithmetic.specs.Operations.{answer_rows, result_rows}
-use Rattle.polars_compute_bits.specs.Bitwise.{counted}
-use Rattle.polars_compute_bits.specs.Sum.{total}
+use Rattle.polars_compute_reductions.specs.Bitwise.{counted}
+use Rattle.polars_compute_reductions.specs.Sum.{total}
 use Rattle.polars_compute_slots.specs.State.{all_seen, appended, new_state, truth_numbers}
 use Rattle.polars_compute_slots.specs.State.{truth_row}
 use Rattle.polars_tables_operations.specs.declared.operation.Calculation.{Calculation}
-use Rattle.polars_tables_operations.specs.declared.operation.Comparison.{Comparison}
+use Rattle.polars_tables_operations.specs.declared.operation.ComparisonKind.{ComparisonKind}
 use Rattle.polars_tables_operations.specs.declared.operation.Distinct.{Distinct}
 use Rattle.polars_tables_operations.specs.declared.operation.GeneralOperation.{GeneralOperation}
 use Rattle.polars_tables_operations.specs.declared.operation.GeneralOperation.TheVariants.{Compare}
@@ -76,7 +76,7 @@ rows_or_none (Some x) (Some y) = row_words (x ∷ y ∷ [])
 rows_or_none x y = codes "none"
 
 -- a comparison of two lists, or of a list with a scalar
-abbrev pub comparison_answer : Comparison → Operand → List Row → List Row → Answer
+abbrev pub comparison_answer : ComparisonKind → Operand → List Row → List Row → Answer
 comparison_answer comparison Rows left right = row_by_row (compared_rows comparison) left right
 comparison_answer comparison Scalar rows scalars = of_scalar scalars
     (λ x. told (compared_rows comparison rows (replicate (length rows) x)))

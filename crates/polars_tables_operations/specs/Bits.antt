@@ -2,7 +2,7 @@
 use Rattle.std.specs.Prelude.{◌+◌, ◌*◌, ℕ, pos, Bool, false, cond, not, List, [], ◌∷◌, count_by}
 use Rattle.polars_arrays_flat.specs.Row.{Row, Int, Truth}
 use Rattle.polars_arrays_numbers.specs.Wrapping.{wrapped}
-use Rattle.polars_compute_bits.specs.Bitwise.{leading_run, trailing_run}
+use Rattle.polars_compute_reductions.specs.Bitwise.{leading_run, trailing_run}
 use Rattle.polars_tables_operations.specs.declared.operation.BitCount.{BitCount}
 use Rattle.polars_tables_operations.specs.declared.operation.BitCount.TheVariants.{Ones, Zeros}
 use Rattle.polars_tables_operations.specs.declared.operation.BitCount.TheVariants.{LeadingOnes}

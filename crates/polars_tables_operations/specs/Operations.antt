@@ -9,13 +9,13 @@ use Rattle.polars_tables_operations.specs.declared.operation.Calculation.TheVari
 use Rattle.polars_tables_operations.specs.declared.operation.Calculation.TheVariants.{Ordered}
 use Rattle.polars_tables_operations.specs.declared.operation.Change.TheVariants.{Magnitude}
 use Rattle.polars_tables_operations.specs.declared.operation.Change.TheVariants.{Negation}
-use Rattle.polars_tables_operations.specs.declared.operation.Comparison.TheVariants.{Equal, Unequal}
-use Rattle.polars_tables_operations.specs.declared.operation.Comparison.TheVariants.{Less}
-use Rattle.polars_tables_operations.specs.declared.operation.Comparison.TheVariants.{LessOrEqual}
-use Rattle.polars_tables_operations.specs.declared.operation.Comparison.TheVariants.{Greater}
-use Rattle.polars_tables_operations.specs.declared.operation.Comparison.TheVariants.{GreaterOrEqual}
-use Rattle.polars_tables_operations.specs.declared.operation.Comparison.TheVariants.{EqualMissing}
-use Rattle.polars_tables_operations.specs.declared.operation.Comparison.TheVariants.{UnequalMissing}
+use Rattle.polars_tables_operations.specs.declared.operation.ComparisonKind.TheVariants.{Equal, Unequal}
+use Rattle.polars_tables_operations.specs.declared.operation.ComparisonKind.TheVariants.{Less}
+use Rattle.polars_tables_operations.specs.declared.operation.ComparisonKind.TheVariants.{LessOrEqual}
+use Rattle.polars_tables_operations.specs.declared.operation.ComparisonKind.TheVariants.{Greater}
+use Rattle.polars_tables_operations.specs.declared.operation.ComparisonKind.TheVariants.{GreaterOrEqual}
+use Rattle.polars_tables_operations.specs.declared.operation.ComparisonKind.TheVariants.{EqualMissing}
+use Rattle.polars_tables_operations.specs.declared.operation.ComparisonKind.TheVariants.{UnequalMissing}
 use Rattle.polars_tables_operations.specs.declared.operation.Distinct.TheVariants.{Listed, Counted}
 use Rattle.polars_tables_operations.specs.declared.operation.Distinct.TheVariants.{PresentCounted}
 use Rattle.polars_tables_operations.specs.declared.operation.GeneralOperation.TheVariants.{Compare}

@@ -5,7 +5,7 @@ use Rattle.std.specs.List.{list_all, list_any}
 use Rattle.polars_arrays_flat.specs.ArrayRows.{is_null}
 use Rattle.polars_arrays_flat.specs.Row.{Row}
 use Rattle.polars_compare_leaves.specs.Order.{row_less, row_greater}
-use Rattle.polars_compute_bits.specs.Bitwise.{is_odd, reduced}
+use Rattle.polars_compute_reductions.specs.Bitwise.{is_odd, reduced}
 use Rattle.polars_tables_operations.specs.declared.operation.Reduction.{Reduction}
 use Rattle.polars_tables_operations.specs.declared.operation.Reduction.TheVariants.{And, Or, Xor}
 use Rattle.polars_tables_operations.specs.declared.operation.Reduction.TheVariants.{Least, Greatest}

@@ -10,7 +10,7 @@ ghost use Rattle.polars_tables_operations.specs.Comparing.{ComparesRows, answer_
 ghost use Rattle.polars_tables_operations.specs.Comparing.{compared_rows};
 
 use crate::kernel_array::KernelArray;
-use crate::operation::Comparison;
+use crate::operation::ComparisonKind;
 use polars_arrays_bits::bitmap::Bitmap;
 use polars_arrays_bits::error::ComputeError;
 use polars_arrays_flat::boolean::BooleanArray;
@@ -22,7 +22,7 @@ use std::alloc::Global;
 // `Unsupported`.
 fn compare_bits<A: KernelArray>(
     alloc: Global,
-    comparison: Comparison,
+    comparison: ComparisonKind,
     left: &A,
     right: &A,
 ) -> Result<Bitmap, ComputeError>
@@ -35,14 +35,14 @@ fn compare_bits<A: KernelArray>(
         IsMemory }
 {
     match comparison {
-        Comparison::Equal => left.tot_eq_kernel(alloc, right),
-        Comparison::Unequal => left.tot_ne_kernel(alloc, right),
-        Comparison::Less => left.tot_lt_kernel(alloc, right),
-        Comparison::LessOrEqual => left.tot_le_kernel(alloc, right),
-        Comparison::Greater => left.tot_gt_kernel(alloc, right),
-        Comparison::GreaterOrEqual => left.tot_ge_kernel(alloc, right),
-        Comparison::EqualMissing => left.tot_eq_missing_kernel(alloc, right),
-        Comparison::UnequalMissing => left.tot_ne_missing_kernel(alloc, right),
+        ComparisonKind::Equal => left.tot_eq_kernel(alloc, right),
+        ComparisonKind::Unequal => left.tot_ne_kernel(alloc, right),
+        ComparisonKind::Less => left.tot_lt_kernel(alloc, right),
+        ComparisonKind::LessOrEqual => left.tot_le_kernel(alloc, right),
+        ComparisonKind::Greater => left.tot_gt_kernel(alloc, right),
+        ComparisonKind::GreaterOrEqual => left.tot_ge_kernel(alloc, right),
+        ComparisonKind::EqualMissing => left.tot_eq_missing_kernel(alloc, right),
+        ComparisonKind::UnequalMissing => left.tot_ne_missing_kernel(alloc, right),
     }
 }
 
@@ -50,7 +50,7 @@ fn compare_bits<A: KernelArray>(
 // The error is `Memory`: every such array has broadcasts, so no kernel returns `Unsupported`.
 fn compare_bits_scalar<A: KernelArray>(
     alloc: Global,
-    comparison: Comparison,
+    comparison: ComparisonKind,
     rows: &A,
     scalar: &A::Value,
 ) -> Result<Bitmap, ComputeError>
@@ -61,14 +61,14 @@ fn compare_bits_scalar<A: KernelArray>(
         IsMemory }
 {
     match comparison {
-        Comparison::Equal => rows.tot_eq_kernel_broadcast(alloc, scalar),
-        Comparison::Unequal => rows.tot_ne_kernel_broadcast(alloc, scalar),
-        Comparison::Less => rows.tot_lt_kernel_broadcast(alloc, scalar),
-        Comparison::LessOrEqual => rows.tot_le_kernel_broadcast(alloc, scalar),
-        Comparison::Greater => rows.tot_gt_kernel_broadcast(alloc, scalar),
-        Comparison::GreaterOrEqual => rows.tot_ge_kernel_broadcast(alloc, scalar),
-        Comparison::EqualMissing => rows.tot_eq_missing_kernel_broadcast(alloc, scalar),
-        Comparison::UnequalMissing => rows.tot_ne_missing_kernel_broadcast(alloc, scalar),
+        ComparisonKind::Equal => rows.tot_eq_kernel_broadcast(alloc, scalar),
+        ComparisonKind::Unequal => rows.tot_ne_kernel_broadcast(alloc, scalar),
+        ComparisonKind::Less => rows.tot_lt_kernel_broadcast(alloc, scalar),
+        ComparisonKind::LessOrEqual => rows.tot_le_kernel_broadcast(alloc, scalar),
+        ComparisonKind::Greater => rows.tot_gt_kernel_broadcast(alloc, scalar),
+        ComparisonKind::GreaterOrEqual => rows.tot_ge_kernel_broadcast(alloc, scalar),
+        ComparisonKind::EqualMissing => rows.tot_eq_missing_kernel_broadcast(alloc, scalar),
+        ComparisonKind::UnequalMissing => rows.tot_ne_missing_kernel_broadcast(alloc, scalar),
     }
 }
 
@@ -94,7 +94,7 @@ fn present_in_both(
 // Returns the validity of the results of a comparison.
 fn validity_of(
     alloc: Global,
-    comparison: Comparison,
+    comparison: ComparisonKind,
     left: &Mask<'_>,
     right: &Mask<'_>,
     n: usize,
@@ -105,7 +105,7 @@ fn validity_of(
         (λ bits. bits ≡ answer_validity comparison left.now right.now) IsMemory }
 {
     match comparison {
-        Comparison::EqualMissing | Comparison::UnequalMissing => Ok(None),
+        ComparisonKind::EqualMissing | ComparisonKind::UnequalMissing => Ok(None),
         _ => present_in_both(alloc, left, right, n),
     }
 }
@@ -113,7 +113,7 @@ fn validity_of(
 // Returns the bits of a comparison as truth values, with null if the comparison has no truth value.
 fn answered(
     alloc: Global,
-    comparison: Comparison,
+    comparison: ComparisonKind,
     left: &Mask<'_>,
     right: &Mask<'_>,
     bits: Bitmap,
@@ -134,7 +134,7 @@ fn answered(
 /// Returns the results of a comparison for the rows of two arrays. The error is `Memory`.
 pub fn compare_rows<A: KernelArray>(
     alloc: Global,
-    comparison: Comparison,
+    comparison: ComparisonKind,
     left: &A,
     right: &A,
 ) -> Result<BooleanArray, ComputeError>
@@ -154,7 +154,7 @@ pub fn compare_rows<A: KernelArray>(
 /// `Memory`.
 pub fn compare_scalar<A: KernelArray>(
     alloc: Global,
-    comparison: Comparison,
+    comparison: ComparisonKind,
     rows: &A,
     scalar: &A::Value,
 ) -> Result<BooleanArray, ComputeError>

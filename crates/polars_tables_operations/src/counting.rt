@@ -3,7 +3,7 @@
 ghost use Rattle.std.specs.Prelude.{MatchResult};
 ghost use Rattle.polars_arrays_bits.specs.Errors.{IsMemory};
 ghost use Rattle.polars_arrays_flat.specs.StoredRows.{rows_under};
-ghost use Rattle.polars_compute_bits.specs.Bitwise.{AreCounts};
+ghost use Rattle.polars_compute_reductions.specs.Bitwise.{AreCounts};
 ghost use Rattle.polars_tables_operations.specs.Bits.{count_of};
 ghost use Rattle.polars_tables_rows.specs.Types.{width_of};
 

@@ -25,7 +25,7 @@ use crate::answering::write_made;
 use crate::comparing::{compare_rows, compare_scalar};
 use crate::counting::count_bits;
 use crate::kernel_array::KernelArray;
-use crate::operation::{BitCount, Comparison, GeneralOperation, Operand, Reduction};
+use crate::operation::{BitCount, ComparisonKind, GeneralOperation, Operand, Reduction};
 use crate::reducing::{find_extremes, reduce};
 use polars_tables_rows::fault::LineError;
 use std::alloc::{AllocError, Global};
@@ -34,7 +34,7 @@ use std::alloc::{AllocError, Global};
 #[tactic(auto, using(crate::proofs::Answered::answered))]
 fn answer_rows<A: KernelArray>(
     alloc: Global,
-    comparison: Comparison,
+    comparison: ComparisonKind,
     left: &A,
     right: &A,
 ) -> Result<String, LineError>
@@ -52,7 +52,7 @@ fn answer_rows<A: KernelArray>(
 #[tactic(auto, using(crate::proofs::Answered::answered))]
 fn answer_scalar<A: KernelArray>(
     alloc: Global,
-    comparison: Comparison,
+    comparison: ComparisonKind,
     rows: &A,
     scalars: &A,
 ) -> Result<String, LineError>
@@ -72,7 +72,7 @@ fn answer_scalar<A: KernelArray>(
 // Returns the result of a comparison for its lists of rows.
 fn answer_comparison<A: KernelArray>(
     alloc: Global,
-    comparison: Comparison,
+    comparison: ComparisonKind,
     operand: Operand,
     lists: &[A],
 ) -> Result<String, LineError>

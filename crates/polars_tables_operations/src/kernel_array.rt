@@ -4,7 +4,7 @@ ghost use Rattle.std.specs.Prelude.{◌≡◌, length, true, refl};
 ghost use Rattle.std.proofs.Common.{sym};
 ghost use Rattle.polars_arrays_flat.specs.Row.{Int, Truth};
 ghost use Rattle.polars_arrays_flat.specs.StoredRows.{rows_under};
-ghost use Rattle.polars_compute_bits.specs.Bitwise.{row_bits};
+ghost use Rattle.polars_compute_reductions.specs.Bitwise.{row_bits};
 ghost use Rattle.polars_tables_rows.specs.Types.{width_of};
 ghost use Rattle.polars_tables_operations.specs.Bits.{bits_row};
 ghost use Rattle.polars_tables_operations.specs.Stored.{AreValues, StoresValues};
@@ -17,7 +17,7 @@ use polars_arrays_flat::primitive::PrimitiveArray;
 use polars_compare_equality::kernel::TotalEqKernel;
 use polars_compare_extremes::kernel::MinMaxKernel;
 use polars_compare_order::kernel::TotalOrdKernel;
-use polars_compute_bits::bitwise::BitwiseKernel;
+use polars_compute_reductions::bitwise::BitwiseKernel;
 use polars_tables_rows::row_array::RowArray;
 
 /// A kind of array that a line can name and that has all kernels for rows of any type. Its scalars

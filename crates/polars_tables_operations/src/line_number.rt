@@ -2,14 +2,14 @@
 
 ghost use Rattle.std.specs.Prelude.{◌≡◌, false, refl};
 ghost use Rattle.polars_arrays_flat.specs.Row.{Int};
-ghost use Rattle.polars_compute_bits.specs.Bitwise.{number_bits};
+ghost use Rattle.polars_compute_reductions.specs.Bitwise.{number_bits};
 ghost use Rattle.polars_tables_operations.specs.Bits.{bits_row};
 ghost use Rattle.polars_tables_rows.specs.Types.{is_boolean, width_of};
 
 use polars_compute_arithmetic::arithmetic::HasPrimitiveArithmeticKernel;
-use polars_compute_bits::bit_number::BitNumber;
-use polars_compute_bits::sum::WrappingSum;
-use polars_compute_bits::wrapping::law_wrapped;
+use polars_compute_reductions::bit_number::BitNumber;
+use polars_compute_reductions::sum::WrappingSum;
+use polars_compute_reductions::wrapping::law_wrapped;
 use polars_compute_slots::number::UniqueNumber;
 use polars_tables_rows::row_number::RowNumber;
 

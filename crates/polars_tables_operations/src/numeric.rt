@@ -5,7 +5,7 @@ ghost use Rattle.std.specs.String.{string_bytes};
 ghost use Rattle.polars_arrays_flat.specs.ArrayRows.{number_rows};
 ghost use Rattle.polars_arrays_flat.specs.Row.{Int};
 ghost use Rattle.polars_arrays_numbers.specs.Wrapping.{wrapped};
-ghost use Rattle.polars_compute_bits.specs.Sum.{total};
+ghost use Rattle.polars_compute_reductions.specs.Sum.{total};
 ghost use Rattle.polars_compute_slots.specs.State.{State};
 ghost use Rattle.polars_tables_operations.specs.Answers.{calculation_answer, numeric_answer};
 ghost use Rattle.polars_tables_operations.specs.Answers.{scalar_calculation_answer};
@@ -43,7 +43,7 @@ use crate::operation::{
 };
 use crate::ranges::state_of;
 use polars_arrays_flat::primitive::PrimitiveArray;
-use polars_compute_bits::sum::wrapping_sum_arr;
+use polars_compute_reductions::sum::wrapping_sum_arr;
 use polars_compute_unique::primitive::PrimitiveRangedUniqueState;
 use polars_tables_rows::fault::LineError;
 use polars_tables_rows::row_array::RowArray;

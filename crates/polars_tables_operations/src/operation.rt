@@ -8,7 +8,7 @@ use polars_tables_rows::tables::find;
 /// A comparison of two rows. The first six are null if either row is null. The last two are always
 /// a truth value: null is equal to null alone.
 #[derive(Clone, Copy, Debug, PartialEq, Eq)]
-pub enum Comparison {
+pub enum ComparisonKind {
     Equal,
     Unequal,
     Less,
@@ -95,7 +95,7 @@ pub enum Distinct {
 #[derive(Clone, Copy, Debug, PartialEq, Eq)]
 pub enum GeneralOperation {
     /// A comparison of the rows of a list.
-    Compare(Comparison, Operand),
+    Compare(ComparisonKind, Operand),
     /// A count of each row's bits.
     CountBits(BitCount),
     /// A reduction of the rows of a list, if one is present.
@@ -138,7 +138,7 @@ macro_rules! compares {
         (
             $name,
             Operation::General(GeneralOperation::Compare(
-                Comparison::$comparison,
+                ComparisonKind::$comparison,
                 Operand::$operand,
             )),
         )

@@ -3,7 +3,7 @@
 ghost use Rattle.std.specs.Prelude.{◌≡◌, option_map};
 ghost use Rattle.polars_arrays_flat.specs.StoredRows.{rows_under};
 ghost use Rattle.polars_compare_leaves.specs.Order.{row_greater, row_less};
-ghost use Rattle.polars_compute_bits.specs.Bitwise.{row_bits};
+ghost use Rattle.polars_compute_reductions.specs.Bitwise.{row_bits};
 ghost use Rattle.polars_tables_operations.specs.Bits.{bits_row};
 ghost use Rattle.polars_tables_operations.specs.Reducing.{best_row, reduction_of};
 ghost use Rattle.polars_tables_rows.specs.Types.{width_of};

@@ -12,7 +12,7 @@ use polars_arrays_bits::bitmap::Bitmap;
 use polars_arrays_flat::primitive::PrimitiveArray;
 use polars_arrays_nested::any_array::AnyArray;
 use polars_compute_arithmetic::arithmetic::HasPrimitiveArithmeticKernel;
-use polars_compute_bits::sum::WrappingSum;
+use polars_compute_reductions::sum::WrappingSum;
 use recorded_text::fault::Fault;
 use recorded_text::store::Store;
 use recorded_text::words::Words;

@@ -9,7 +9,7 @@
 use crate::made::write_number;
 use crate::operations::{Function, Operation};
 use polars_compute_arithmetic::arithmetic::pl_num::PlNumArithmetic;
-use polars_compute_bits::sum::WrappingAdd;
+use polars_compute_reductions::sum::WrappingAdd;
 use recorded_text::fault::Fault;
 use recorded_text::names::find_word;
 use recorded_text::words::Words;

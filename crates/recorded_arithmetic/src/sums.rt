@@ -12,7 +12,7 @@ use crate::operands::{Part, clone_part, read_operand};
 use polars_arrays_bits::bit_mask::BitMask;
 use polars_arrays_bits::bitmap::Bitmap;
 use polars_arrays_flat::primitive::PrimitiveArray;
-use polars_compute_bits::sum::{WrappingSum, wrapping_sum_arr};
+use polars_compute_reductions::sum::{WrappingSum, wrapping_sum_arr};
 use recorded_text::fault::Fault;
 use recorded_text::parts::read_bits;
 use recorded_text::store::Store;

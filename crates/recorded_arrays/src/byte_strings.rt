@@ -10,13 +10,13 @@ use std::alloc::Global;
 
 /// A comparison of two byte strings.
 #[derive(Clone, Copy)]
-pub enum Comparison {
+pub enum ByteTest {
     Equal,
     Less,
 }
 
 /// Returns whether a comparison of two byte strings holds.
-pub fn compare(alloc: Global, comparison: Comparison, words: &mut Words) -> Result<String, Fault> {
+pub fn compare(alloc: Global, comparison: ByteTest, words: &mut Words) -> Result<String, Fault> {
     let (left, right) = (words.read()?, words.read()?);
     let left = read_bytes(alloc, left)?;
     let right = read_bytes(alloc, right)?;
@@ -25,10 +25,10 @@ pub fn compare(alloc: Global, comparison: Comparison, words: &mut Words) -> Resu
 }
 
 // Returns whether a comparison holds.
-fn is_told(comparison: Comparison, left: &[u8], right: &[u8]) -> bool {
+fn is_told(comparison: ByteTest, left: &[u8], right: &[u8]) -> bool {
     match comparison {
-        Comparison::Equal => bytes_equal(left, right),
-        Comparison::Less => bytes_less(left, right),
+        ByteTest::Equal => bytes_equal(left, right),
+        ByteTest::Less => bytes_less(left, right),
     }
 }
 

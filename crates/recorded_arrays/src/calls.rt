@@ -20,7 +20,7 @@ pub enum Call {
     /// The type of an array of strings between offsets.
     StringsType(Strings),
     /// A comparison of two byte strings.
-    Bytes(byte_strings::Comparison),
+    Bytes(byte_strings::ByteTest),
     /// A comparison of two pairs of numbers.
     PairLess,
     /// A call on the view whose bytes are the next word.
@@ -155,8 +155,8 @@ const CALLS: [(&str, Call); 66] = [
         "as_binview",
         Call::One(OfOne::Strings(string_arrays::Asked::AsBinview)),
     ),
-    ("bytes_equal", Call::Bytes(byte_strings::Comparison::Equal)),
-    ("bytes_less", Call::Bytes(byte_strings::Comparison::Less)),
+    ("bytes_equal", Call::Bytes(byte_strings::ByteTest::Equal)),
+    ("bytes_less", Call::Bytes(byte_strings::ByteTest::Less)),
     ("pair_less", Call::PairLess),
     ("struct_try_new", Call::StructOfParts),
     ("dtype", Call::One(OfOne::Type)),

@@ -23,7 +23,7 @@ use polars_arrays_numbers::comparison::{
 };
 use polars_compare_leaves::booleans::TruthComparison;
 use polars_compare_leaves::bytes::ByteComparison;
-use polars_compare_views::view_comparison::ViewComparison;
+use polars_compare_leaves::view_comparison::ViewComparison;
 use recorded_text::bits_text::write_made;
 use recorded_text::fault::Fault;
 use recorded_text::names::find_word;
@@ -145,7 +145,7 @@ fn ask_by<C: TruthComparison + ByteComparison + ViewComparison>(
 {
     match compared {
         Compared::TwoTruths => compare_truths(alloc, comparison, words),
-        Compared::Masks => compare_masks(alloc, comparison, words),
+        Compared::Masks => compare_bits(alloc, comparison, words),
         Compared::TwoStrings | Compared::StringAndConstant => {
             compare_strings(alloc, comparison, compared, words)
         }
@@ -170,7 +170,7 @@ fn compare_truths<C: TruthComparison>(
 }
 
 // Compares the bits of two windows.
-fn compare_masks<C: TruthComparison>(
+fn compare_bits<C: TruthComparison>(
     alloc: Global,
     comparison: &C,
     words: &mut Words,
@@ -191,7 +191,7 @@ fn write_passing<C: TruthComparison>(
         return Err(Fault::Case);
     }
     let (left, right) = (BitMask::from_bitmap(left), BitMask::from_bitmap(right));
-    write_made(alloc, comparison.compare_masks(alloc, &left, &right))
+    write_made(alloc, comparison.compare_bits(alloc, &left, &right))
 }
 
 // Compares two byte strings, by a call of `ByteComparison`.

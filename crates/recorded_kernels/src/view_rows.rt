@@ -26,8 +26,8 @@ use polars_arrays_views::rows::{
     bytes_less_row, row_equals_bytes, row_less, row_less_bytes, rows_equal,
 };
 use polars_arrays_views::scalar::ScalarRow;
-use polars_compare_views::followed::FollowedKernel;
-use polars_compare_views::view_comparison::ViewComparison;
+use polars_compare_leaves::followed::FollowedKernel;
+use polars_compare_leaves::view_comparison::ViewComparison;
 use recorded_text::bits_text::write_made;
 use recorded_text::bytes_text::write_bytes;
 use recorded_text::fault::Fault;

@@ -3,7 +3,7 @@
 //!
 //! - `array_tot_eq_missing_kernel_counted A B [LEAVES]`, and so of `ne`: `BITS in N comparisons`
 //! - `equal_windows A a B b n [LEAVES]`: `BITS in N comparisons`
-//! - `list_windows`, `fixed_size_list_windows`, `struct_windows`, `dictionary_windows`, `leaf_eq`:
+//! - `eq_lists`, `eq_fixed_size_lists`, `eq_structs`, `eq_dictionaries`, `leaf_eq`:
 //!   `BITS in N comparisons`, with `x` for masked rows
 //!
 //! LEAVES is `always` or `never`, for a kernel in which all leaves agree, or none.
@@ -29,7 +29,7 @@ use polars_compare_nested::kernels::{
 };
 use polars_compare_nested::leaf_kernel::LeafKernel;
 use polars_compare_nested::windows::{
-    dictionary_windows, equal_windows, fixed_size_list_windows, list_windows, struct_windows,
+    eq_dictionaries, eq_fixed_size_lists, eq_lists, eq_structs, equal_windows,
 };
 use recorded_text::bits_text::write_made;
 use recorded_text::fault::Fault;
@@ -225,15 +225,15 @@ fn stored_bits<K: LeafKernel>(
             Some(kernel.leaf_eq(alloc, left, a, right, b, n))
         }
         (Counted::Lists, AnyArray::List(left), AnyArray::List(right)) => {
-            Some(list_windows(alloc, left, a, right, b, n, kernel))
+            Some(eq_lists(alloc, left, a, right, b, n, kernel))
         }
         (Counted::FixedSizeLists, AnyArray::FixedSizeList(left), AnyArray::FixedSizeList(right)) =>
-            Some(fixed_size_list_windows(alloc, left, a, right, b, n, kernel)),
+            Some(eq_fixed_size_lists(alloc, left, a, right, b, n, kernel)),
         (Counted::Structs, AnyArray::Struct(left), AnyArray::Struct(right)) => {
-            Some(struct_windows(alloc, left, a, right, b, n, kernel))
+            Some(eq_structs(alloc, left, a, right, b, n, kernel))
         }
         (Counted::Dictionaries, AnyArray::Dictionary(left), AnyArray::Dictionary(right)) => {
-            Some(dictionary_windows(alloc, left, a, right, b, n, kernel))
+            Some(eq_dictionaries(alloc, left, a, right, b, n, kernel))
         }
         _ => None,
     }

@@ -13,7 +13,7 @@ use polars_arrays_bits::error::ComputeError;
 use polars_arrays_flat::array::Array;
 use polars_arrays_flat::primitive::PrimitiveArray;
 use polars_arrays_nested::any_array::AnyArray;
-use polars_compute_bits::bitwise::BitwiseKernel;
+use polars_compute_reductions::bitwise::BitwiseKernel;
 use recorded_text::bits_text::is_null;
 use recorded_text::fault::Fault;
 use std::alloc::Global;

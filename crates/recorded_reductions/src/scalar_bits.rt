@@ -6,7 +6,7 @@
 use crate::calls::Join;
 use polars_arrays_flat::boolean::BooleanArray;
 use polars_arrays_flat::primitive::PrimitiveArray;
-use polars_compute_bits::bitwise::BitwiseKernel;
+use polars_compute_reductions::bitwise::BitwiseKernel;
 use recorded_text::fault::Fault;
 use recorded_text::words::Words;
 use std::fmt::Display;

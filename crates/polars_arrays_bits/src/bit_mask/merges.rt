@@ -14,7 +14,8 @@ use polars_arrays_words::source::{Aligned, BitSource, Placed, Shifted};
 use std::alloc::Global;
 
 impl BitMask<'_> {
-    // Applies an operator to each triple of bits of three windows.
+    // Returns a bitmap with the operator's result for the bits of this window, `left` and `right` at
+    // each row.
     fn merge<O: TernaryOperator>(
         &self,
         alloc: Global,
@@ -35,7 +36,8 @@ impl BitMask<'_> {
         left.merge_last_two(alloc, operator, Shifted { words, by }, right)
     }
 
-    // Applies an operator to each bit of a source, of this window and of another one.
+    // Returns a bitmap with the operator's result for the bits of `first`, this window and `third` at
+    // each row.
     fn merge_last_two<O: TernaryOperator, A: BitSource + Drop>(
         &self,
         alloc: Global,
@@ -56,7 +58,8 @@ impl BitMask<'_> {
         third.merge_last(alloc, operator, first, Shifted { words, by })
     }
 
-    // Applies an operator to each bit of two sources and of this window.
+    // Returns a bitmap with the operator's result for the bits of `first`, `second` and this window
+    // at each row.
     fn merge_last<O: TernaryOperator, A: BitSource + Drop, B: BitSource + Drop>(
         &self,
         alloc: Global,
@@ -90,8 +93,8 @@ impl BitMask<'_> {
         Bitmap::from_source(alloc, &source, self.len)
     }
 
-    // Applies an operator to each bit of a source, of this window and of another one. One loop
-    // serves windows that begin at any bit of a word.
+    // Returns a bitmap with the operator's result for the bits of `first`, this window and `third` at
+    // each row. One loop serves windows that begin at any bit of a word.
     fn merge_placed<O: TernaryOperator, A: BitSource + Drop>(
         &self,
         alloc: Global,
@@ -154,8 +157,8 @@ impl BitMask<'_> {
     }
 
     /// Returns what `merge_eq` returns, where `q` has the rows with equal values as truth values
-    /// that are not packed yet. They are joined with the masks while they are packed, without a
-    /// bitmap of their own. The error is `Memory`.
+    /// that are not packed yet. They are joined with the masks while they are packed, so no bitmap
+    /// holds them in between. The error is `Memory`.
     pub fn merge_eq_values<V: TruthValues>(
         alloc: Global,
         q: &V,

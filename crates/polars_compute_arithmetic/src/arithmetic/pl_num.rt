@@ -11,7 +11,7 @@ ghost use Rattle.polars_compute_arithmetic.specs.Quotients.{across, is_below};
 
 use crate::arithmetic::divisor::DivisorNumber;
 use num_traits::{One, WrappingAdd, WrappingMul, WrappingNeg, WrappingSub, Zero};
-use polars_compute_bits::wrapping::WrappingNumber;
+use polars_compute_reductions::wrapping::WrappingNumber;
 
 /// Wrapping arithmetic on single numbers. Both divisions and the modulus by 0 are 0.
 pub trait PlNumArithmetic: DivisorNumber

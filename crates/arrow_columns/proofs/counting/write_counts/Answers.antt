@@ -4,8 +4,8 @@ use Rattle.std.proofs.lemmas.Simd.{map-map}
 use Rattle.num_traits.specs.Laws.{bit_len}
 use Rattle.polars_arrays_flat.specs.Row.{Int}
 use Rattle.polars_arrays_flat.specs.StoredRows.{number_slots, rows_under}
-use Rattle.polars_compute_bits.specs.Bitwise.{counted, number_bits}
-use Rattle.polars_compute_bits.proofs.CountedRows.{under-counted}
+use Rattle.polars_compute_reductions.specs.Bitwise.{counted, number_bits}
+use Rattle.polars_compute_reductions.proofs.CountedRows.{under-counted}
 use Rattle.arrow_columns.proofs.counting.write_counts.Goals as goal
 
 pub returns : goal.returns

@@ -1,8 +1,8 @@
 use Rattle.std.proofs.Common.{◌∙◌, sym, ap₂}
 use Rattle.polars_arrays_flat.specs.ArrayRows.{number_rows}
 use Rattle.polars_arrays_flat.specs.StoredRows.{number_slots, rows_under}
-use Rattle.polars_arrays_folds.proofs.FoldSteps.{length-rows, length-slots, no_fold, some_fold}
-use Rattle.polars_arrays_folds.specs.Folds.{folded}
+use Rattle.polars_compute_reductions.proofs.FoldSteps.{length-rows, length-slots, no_fold, some_fold}
+use Rattle.polars_compute_reductions.specs.Folds.{folded}
 use Rattle.arrow_columns.proofs.Compared.{slot-bits}
 use Rattle.arrow_columns.proofs.reducing.reduce.Goals as goal
 

@@ -1,6 +1,6 @@
 use Rattle.num_traits.specs.Laws.{bit_len}
 use Rattle.polars_arrays_flat.specs.ArrayRows.{number_rows}
-use Rattle.polars_compute_bits.proofs.Reductions.{and_reduces, or_reduces, rows-numbers, xor_reduces}
+use Rattle.polars_compute_reductions.proofs.Reductions.{and_reduces, or_reduces, rows-numbers, xor_reduces}
 use Rattle.arrow_columns.proofs.reducing.reduce_bits.Goals as goal
 
 pub returns-in-And : goal.returns-in-And

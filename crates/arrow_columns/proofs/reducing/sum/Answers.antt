@@ -2,8 +2,8 @@ use Rattle.std.proofs.Common.{◌∙◌, cond, ap}
 use Rattle.std.specs.Prelude.{Some, None}
 use Rattle.num_traits.specs.Laws.{bit_len}
 use Rattle.polars_arrays_flat.specs.ArrayRows.{number_rows}
-use Rattle.polars_arrays_folds.specs.Folds.{none_present}
-use Rattle.polars_compute_bits.specs.SumLaws.{folded-total}
+use Rattle.polars_compute_reductions.specs.Folds.{none_present}
+use Rattle.polars_compute_reductions.specs.SumLaws.{folded-total}
 use Rattle.arrow_columns.proofs.reducing.sum.Goals as goal
 
 pub returns : goal.returns

@@ -5,7 +5,7 @@ use Rattle.arrow_columns.specs.Reductions.{joins_bits}
 use Rattle.dunkelva_c.proofs.Lent.{option_map-fused}
 use Rattle.dunkelva_c.proofs.column_bits.reduce_numbers.Goals as goal
 use Rattle.polars_arrays_flat.specs.StoredRows.{number_slots, rows_under}
-use Rattle.polars_compute_bits.specs.Bitwise.{number_bits, reduced}
+use Rattle.polars_compute_reductions.specs.Bitwise.{number_bits, reduced}
 
 pub returns-clause-joined : goal.returns-clause-joined
 returns-clause-joined g c =

@@ -2,7 +2,7 @@ use Rattle.std.proofs.Common.{◌∙◌, ap}
 use Rattle.std.specs.Prelude.{ℤ}
 use Rattle.std.specs.Option.{option_copied}
 use Rattle.polars_arrays_flat.specs.StoredRows.{number_slots, rows_under}
-use Rattle.polars_arrays_folds.specs.Folds.{folded}
+use Rattle.polars_compute_reductions.specs.Folds.{folded}
 use Rattle.polars_compare_extremes.specs.BestNumber.{best_of}
 use Rattle.polars_compare_extremes.proofs.BestRows.{folded-alike}
 use Rattle.polars_compare_extremes.proofs.NumberRows.{found-from, no_number}

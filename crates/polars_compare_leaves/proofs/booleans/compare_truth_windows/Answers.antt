@@ -10,7 +10,7 @@ pub returns : goal.returns
 returns g c =
     let left : c.window-left.result ≡ window c.args.a c.args.n c.args.left.now.values = c.window-left.ensures ∙ ap (λ xs. window c.args.a c.args.n xs) (c.from_bitmap.ensures ∙ c.values.ensures) in
     let right : c.window-right.result ≡ window c.args.b c.args.n c.args.right.now.values = c.window-right.ensures ∙ ap (λ xs. window c.args.b c.args.n xs) (c.from_bitmap-2.ensures ∙ c.values-2.ensures) in
-    MatchResult-weaker c.compare_masks.result c.compare_masks.ensures
+    MatchResult-weaker c.compare_bits.result c.compare_bits.ensures
     (λ bits e.
     e
     ∙ ap₂ (λ xs ys. zip2 (λ l r. g.E.TruthComparison.rows (Truth l) (Truth r)) xs ys) left right

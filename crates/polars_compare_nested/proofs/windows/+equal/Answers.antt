@@ -1,7 +1,9 @@
 use Rattle.std.proofs.Common.{◌≡◌, ◌≤◌, ◌<◌, ◌+◌, ◌∙◌, ℕ, length, refl, sym, ap, subst, arith, rules}
 use Rattle.std.specs.Prelude.{IfOk}
 use Rattle.std.proofs.lemmas.Result.{MatchResult-weaker}
+use Rattle.polars_arrays_flat.specs.Kind.{NullKind}
 use Rattle.polars_arrays_nested.specs.Parts.{columns}
+use Rattle.polars_arrays_nested.specs.Types.{type_of}
 use Rattle.polars_arrays_nested.specs.declared.any_array.AnyArray.{List, Struct, Dictionary, the_lemmas}
 use Rattle.polars_compare_nested.proofs.Cases.{list_sort}
 use Rattle.polars_compare_nested.proofs.Columns.{columns_tally-take, first_column, more_columns, no_columns, struct_bits, struct_count, struct_tally}
@@ -9,44 +11,112 @@ use Rattle.polars_compare_nested.proofs.FewRows.{whole_joined}
 use Rattle.polars_compare_nested.proofs.KnownLists.{known_at, none_known}
 use Rattle.polars_compare_nested.proofs.LeafSorts.{leaf_bit, leaf_bits, leaf_case, leaf_tally}
 use Rattle.polars_compare_nested.proofs.ListRuns.{apart_bits, run_bits, run_tally}
-use Rattle.polars_compare_nested.proofs.RawRows.{adds_one, entry_bit, entry_count, entry_none, fixed_bits, joined, raw_adds, raw_none, same_first}
+use Rattle.polars_compare_nested.proofs.RawRows.{adds_one, entry_bit, entry_count, entry_none, fixed_bits, joined, null_free, on_ok, raw_adds, raw_none, raw_nulls, same_first}
 use Rattle.polars_compare_nested.proofs.TallyAdds.{tally-adds}
 use Rattle.polars_compare_nested.proofs.WordRuns.{run_word}
+use Rattle.polars_compare_nested.specs.Bits.{RawBits}
 use Rattle.polars_compare_nested.specs.Tally.{tally}
+use Rattle.polars_compare_nested.specs.Windows.{Compares}
 use Rattle.polars_compare_nested.proofs.windows.+equal.Goals as goal
+use Rattle.polars_compare_nested.proofs.windows.+equal.Goals.{equal_windows-in-Null, equal_windows-in-List, equal_windows-in-FixedSizeList, equal_windows-in-Struct, equal_windows-in-Dictionary, equal_windows-in_default}
+
+pub equal_windows-join_windows-requires : goal.equal_windows-join_windows-requires
+equal_windows-join_windows-requires g t c =
+    let raw : Compares (RawBits g.K.LeafKernel.agree) c.args.left.now c.args.a c.args.right.now c.args.b c.args.n (g.K.LeafKernel.count c.args.steps.now) (g.K.LeafKernel.count c.match-left.steps) c.match-left.raw =
+    elim c.match-left.branch [
+      | equal_windows-in-Null w ↦
+          let nulls : type_of c.args.right.now ≡ NullKind = sym c.requires.one_type ∙ ap type_of w.in-Null.is in
+          rw (w.raw-is, w.steps-is, w.in-Null.is)
+          (record {
+            told =
+                MatchResult-weaker w.new_with_value-raw.result w.new_with_value-raw.ensures
+                (λ bits e. raw_nulls _ w.in-Null.field-0 c.args.right.now _ _ _ bits nulls e)
+                (λ e memory. memory);
+            counted = on_ok w.new_with_value-raw.result _ (null_free w.in-Null.field-0 c.args.right.now c.args.a c.args.b c.args.n (g.K.LeafKernel.count c.args.steps.now));
+            kept = omega arith;
+          })
+      | equal_windows-in-List w ↦ rw (w.raw-is, w.steps-is, w.in-List.is, w.as_list.ensures) w.eq_lists-raw.ensures
+      | equal_windows-in-FixedSizeList w ↦
+          rw (w.raw-is, w.steps-is, w.in-FixedSizeList.is, w.as_fixed_size_list.ensures) w.eq_fixed_size_lists-raw.ensures
+      | equal_windows-in-Struct w ↦ rw (w.raw-is, w.steps-is, w.in-Struct.is, w.as_struct.ensures) w.eq_structs-raw.ensures
+      | equal_windows-in-Dictionary w ↦
+          rw (w.raw-is, w.steps-is, w.in-Dictionary.is, w.as_dictionary.ensures) w.eq_dictionaries-raw.ensures
+      | equal_windows-in_default w ↦
+          let leaves = leaf_case c.args.left.now w.in_default.not-Null w.in_default.not-List w.in_default.not-FixedSizeList w.in_default.not-Struct w.in_default.not-Dictionary in
+          rw (w.raw-is, w.steps-is)
+          (record {
+            told =
+                MatchResult-weaker w.leaf_eq-raw.result w.leaf_eq-raw.ensures.told
+                (λ bits says. leaf_bits _ _ _ _ _ _ bits leaves c.requires.one_type c.requires.left_in c.requires.right_in says)
+                (λ e memory. memory);
+            counted =
+                subst (λ (k : ℕ). IfOk w.leaf_eq-raw.result (λ _. g.K.LeafKernel.count w.leaf_eq-raw.new.self ≡ g.K.LeafKernel.count c.args.steps.now + k))
+                (sym (leaf_tally c.args.left.now c.args.right.now c.args.a c.args.b c.args.n leaves)) w.leaf_eq-raw.ensures.counted;
+            kept = w.leaf_eq-raw.ensures.kept;
+          })
+    ] in
+    let told : RawBits g.K.LeafKernel.agree c.args.left.now c.args.a c.args.right.now c.args.b c.args.n c.in_ok-raw.field-0 = rw c.in_ok-raw.was at raw.told in
+    record {
+      left_good = c.requires.left_good;
+      right_good = c.requires.right_good;
+      one_type = c.requires.one_type;
+      left_in = omega (arith, told.size, c.requires.left_in);
+      right_in = omega (arith, told.size, c.requires.right_in);
+    }
 
 pub equal_windows-returns : goal.equal_windows-returns
-equal_windows-returns g t c = record {
-  told =
-      MatchResult-weaker c.join_windows.result c.join_windows.ensures
-      (λ bits join. joined _ _ _ _ _ _ _ bits c.in_ok-raw.ensures.told join)
-      (λ e memory. memory);
-  counted = search rules;
-  kept = c.in_ok-raw.ensures.kept;
-}
+equal_windows-returns g t c =
+    let raw : Compares (RawBits g.K.LeafKernel.agree) c.args.left.now c.args.a c.args.right.now c.args.b c.args.n (g.K.LeafKernel.count c.args.steps.now) (g.K.LeafKernel.count c.match-left.steps) c.match-left.raw =
+    elim c.match-left.branch [
+      | equal_windows-in-Null w ↦
+          let nulls : type_of c.args.right.now ≡ NullKind = sym c.requires.one_type ∙ ap type_of w.in-Null.is in
+          rw (w.raw-is, w.steps-is, w.in-Null.is)
+          (record {
+            told =
+                MatchResult-weaker w.new_with_value-raw.result w.new_with_value-raw.ensures
+                (λ bits e. raw_nulls _ w.in-Null.field-0 c.args.right.now _ _ _ bits nulls e)
+                (λ e memory. memory);
+            counted = on_ok w.new_with_value-raw.result _ (null_free w.in-Null.field-0 c.args.right.now c.args.a c.args.b c.args.n (g.K.LeafKernel.count c.args.steps.now));
+            kept = omega arith;
+          })
+      | equal_windows-in-List w ↦ rw (w.raw-is, w.steps-is, w.in-List.is, w.as_list.ensures) w.eq_lists-raw.ensures
+      | equal_windows-in-FixedSizeList w ↦
+          rw (w.raw-is, w.steps-is, w.in-FixedSizeList.is, w.as_fixed_size_list.ensures) w.eq_fixed_size_lists-raw.ensures
+      | equal_windows-in-Struct w ↦ rw (w.raw-is, w.steps-is, w.in-Struct.is, w.as_struct.ensures) w.eq_structs-raw.ensures
+      | equal_windows-in-Dictionary w ↦
+          rw (w.raw-is, w.steps-is, w.in-Dictionary.is, w.as_dictionary.ensures) w.eq_dictionaries-raw.ensures
+      | equal_windows-in_default w ↦
+          let leaves = leaf_case c.args.left.now w.in_default.not-Null w.in_default.not-List w.in_default.not-FixedSizeList w.in_default.not-Struct w.in_default.not-Dictionary in
+          rw (w.raw-is, w.steps-is)
+          (record {
+            told =
+                MatchResult-weaker w.leaf_eq-raw.result w.leaf_eq-raw.ensures.told
+                (λ bits says. leaf_bits _ _ _ _ _ _ bits leaves c.requires.one_type c.requires.left_in c.requires.right_in says)
+                (λ e memory. memory);
+            counted =
+                subst (λ (k : ℕ). IfOk w.leaf_eq-raw.result (λ _. g.K.LeafKernel.count w.leaf_eq-raw.new.self ≡ g.K.LeafKernel.count c.args.steps.now + k))
+                (sym (leaf_tally c.args.left.now c.args.right.now c.args.a c.args.b c.args.n leaves)) w.leaf_eq-raw.ensures.counted;
+            kept = w.leaf_eq-raw.ensures.kept;
+          })
+    ] in
+    let told : RawBits g.K.LeafKernel.agree c.args.left.now c.args.a c.args.right.now c.args.b c.args.n c.in_ok-raw.field-0 = rw c.in_ok-raw.was at raw.told in
+    record {
+      told =
+          MatchResult-weaker c.join_windows.result c.join_windows.ensures
+          (λ bits join. joined _ _ _ _ _ _ _ bits told join)
+          (λ e memory. memory);
+      counted = on_ok c.join_windows.result _ (rw c.in_ok-raw.was at raw.counted);
+      kept = raw.kept;
+    }
 
-pub raw_windows-leaf_eq-requires : goal.raw_windows-leaf_eq-requires
-raw_windows-leaf_eq-requires g t c = record {
+pub equal_windows-leaf_eq-raw-requires : goal.equal_windows-leaf_eq-raw-requires
+equal_windows-leaf_eq-raw-requires g t c = record {
   leaves = leaf_case c.args.left.now c.in_default.not-Null c.in_default.not-List c.in_default.not-FixedSizeList c.in_default.not-Struct c.in_default.not-Dictionary;
   windows = c.requires;
 }
 
-pub raw_windows-returns-in_default : goal.raw_windows-returns-in_default
-raw_windows-returns-in_default g t c =
-    let leaves = leaf_case c.args.left.now c.in_default.not-Null c.in_default.not-List c.in_default.not-FixedSizeList c.in_default.not-Struct c.in_default.not-Dictionary in
-    record {
-      told =
-          MatchResult-weaker c.leaf_eq.result c.leaf_eq.ensures.told
-          (λ bits says. leaf_bits _ _ _ _ _ _ bits leaves c.requires.one_type c.requires.left_in c.requires.right_in says)
-          (λ e memory. memory);
-      counted =
-          subst (λ (k : ℕ). IfOk c.leaf_eq.result (λ _. g.K.LeafKernel.count c.leaf_eq.new.self ≡ g.K.LeafKernel.count c.args.steps.now + k))
-          (sym (leaf_tally c.args.left.now c.args.right.now c.args.a c.args.b c.args.n leaves)) c.leaf_eq.ensures.counted;
-      kept = c.leaf_eq.ensures.kept;
-    }
-
-pub list_windows-loop-done-init : goal.list_windows-loop-done-init
-list_windows-loop-done-init g t c = (
+pub eq_lists-loop-done-init : goal.eq_lists-loop-done-init
+eq_lists-loop-done-init g t c = (
   omega arith,
   rw c.in_ok-bits.ensures.empty (raw_none _ _ _ _ _),
   omega arith,
@@ -55,8 +125,8 @@ list_windows-loop-done-init g t c = (
   none_known _ _ _ _ _ _ c.none-matches.ensures,
 )
 
-pub list_windows-loop-done-preserved : goal.list_windows-loop-done-preserved
-list_windows-loop-done-preserved g t c =
+pub eq_lists-loop-done-preserved : goal.eq_lists-loop-done-preserved
+eq_lists-loop-done-preserved g t c =
     let next = c.in_ok-done.ensures in
     let adds = tally-adds (List c.args.left.now) (List c.args.right.now) c.args.a c.args.b c.loop-done.done c.in_ok-done.field-0 in (
       omega (arith, next.within),
@@ -109,8 +179,8 @@ push_next-returns-then-are_few_leaves-clause-counted g t c =
     let counted = rw (c.values-left_items.ensures.values, c.values-right_items.ensures.values) at c.in_ok-word-in-Run.ensures.counted in
     counted ∙ ap (λ (k : ℕ). g.K.LeafKernel.count c.args.steps.now + k) (sym cost)
 
-pub fixed_size_list_windows-returns : goal.fixed_size_list_windows-returns
-fixed_size_list_windows-returns g t c = record {
+pub eq_fixed_size_lists-returns : goal.eq_fixed_size_lists-returns
+eq_fixed_size_lists-returns g t c = record {
   told =
       MatchResult-weaker c.all_in_blocks.result (rw c.from_bitmap.ensures at c.all_in_blocks.ensures)
       (λ bits blocks.
@@ -120,8 +190,8 @@ fixed_size_list_windows-returns g t c = record {
   kept = c.in_ok-items.ensures.kept;
 }
 
-pub struct_windows-returns-then-count-eq0 : goal.struct_windows-returns-then-count-eq0
-struct_windows-returns-then-count-eq0 g t c =
+pub eq_structs-returns-then-count-eq0 : goal.eq_structs-returns-then-count-eq0
+eq_structs-returns-then-count-eq0 g t c =
     let l = c.args.left.now in
     let r = c.args.right.now in
     let many = struct_count l r c.requires.left_good c.requires.right_good c.requires.one_type in
@@ -138,8 +208,8 @@ struct_windows-returns-then-count-eq0 g t c =
       kept = omega arith;
     }
 
-pub struct_windows-loop-i-init : goal.struct_windows-loop-i-init
-struct_windows-loop-i-init g t c =
+pub eq_structs-loop-i-init : goal.eq_structs-loop-i-init
+eq_structs-loop-i-init g t c =
     let l = c.args.left.now in
     let r = c.args.right.now in
     let pair = c.column_pair.ensures in
@@ -150,8 +220,8 @@ struct_windows-loop-i-init g t c =
       ap length c.values-count.ensures,
     )
 
-pub struct_windows-loop-i-preserved : goal.struct_windows-loop-i-preserved
-struct_windows-loop-i-preserved g t c =
+pub eq_structs-loop-i-preserved : goal.eq_structs-loop-i-preserved
+eq_structs-loop-i-preserved g t c =
     let l = c.args.left.now in
     let r = c.args.right.now in
     let pair = c.column_pair-in-loop-i.ensures in
@@ -163,8 +233,8 @@ struct_windows-loop-i-preserved g t c =
       c.loop-i.invariant.3,
     )
 
-pub struct_windows-returns : goal.struct_windows-returns
-struct_windows-returns g t c =
+pub eq_structs-returns : goal.eq_structs-returns
+eq_structs-returns g t c =
     let l = c.args.left.now in
     let r = c.args.right.now in
     let many = struct_count l r c.requires.left_good c.requires.right_good c.requires.one_type in
@@ -207,16 +277,16 @@ join_column-returns-clause-told g t c = record {
   joined = c.and_assign.ensures;
 }
 
-pub dictionary_windows-loop-i-init : goal.dictionary_windows-loop-i-init
-dictionary_windows-loop-i-init g t c = (
+pub eq_dictionaries-loop-i-init : goal.eq_dictionaries-loop-i-init
+eq_dictionaries-loop-i-init g t c = (
   rw c.in_ok-bits.ensures.empty (raw_none _ _ _ _ _),
   omega arith,
   omega arith,
   omega (arith, c.in_ok-bits.ensures.room),
 )
 
-pub dictionary_windows-loop-i-preserved : goal.dictionary_windows-loop-i-preserved
-dictionary_windows-loop-i-preserved g t c =
+pub eq_dictionaries-loop-i-preserved : goal.eq_dictionaries-loop-i-preserved
+eq_dictionaries-loop-i-preserved g t c =
     let same = c.in_ok-same.ensures in
     let adds = tally-adds (Dictionary c.args.left.now) (Dictionary c.args.right.now) c.args.a c.args.b c.loop-i.i 1 in
     rw c.push_reserved.ensures (
@@ -270,47 +340,33 @@ nested_row-returns-in_ok-bits-in_default g t c = record {
   kept = c.in_ok-bits-in_default.ensures.kept;
 }
 
-pub raw_windows-as_list-requires : goal.raw_windows-as_list-requires
-raw_windows-as_list-requires g t c = rw (← c.requires.one_type) (list_sort c.args.left.now c.in-List.left c.in-List.is)
+pub equal_windows-as_list-requires : goal.equal_windows-as_list-requires
+equal_windows-as_list-requires g t c = rw (← c.requires.one_type) (list_sort c.args.left.now c.in-List.left c.in-List.is)
 
-pub raw_windows-list_windows-requires : goal.raw_windows-list_windows-requires
-raw_windows-list_windows-requires g t c κs within =
+pub equal_windows-eq_lists-raw-requires : goal.equal_windows-eq_lists-raw-requires
+equal_windows-eq_lists-raw-requires g t c κs within =
     (search (rules, the_lemmas), (within, rw (c.in-List.is, c.as_list.ensures) at c.requires))
 
-pub raw_windows-returns-in-List : goal.raw_windows-returns-in-List
-raw_windows-returns-in-List g t c = rw (c.in-List.is, c.as_list.ensures) c.list_windows.ensures
+pub equal_windows-as_fixed_size_list-requires : goal.equal_windows-as_fixed_size_list-requires
+equal_windows-as_fixed_size_list-requires g t c = rw (← c.requires.one_type, c.in-FixedSizeList.is) refl
 
-pub raw_windows-as_fixed_size_list-requires : goal.raw_windows-as_fixed_size_list-requires
-raw_windows-as_fixed_size_list-requires g t c = rw (← c.requires.one_type, c.in-FixedSizeList.is) refl
-
-pub raw_windows-fixed_size_list_windows-requires : goal.raw_windows-fixed_size_list_windows-requires
-raw_windows-fixed_size_list_windows-requires g t c κs within =
+pub equal_windows-eq_fixed_size_lists-raw-requires : goal.equal_windows-eq_fixed_size_lists-raw-requires
+equal_windows-eq_fixed_size_lists-raw-requires g t c κs within =
     (search (rules, the_lemmas), (within, rw (c.in-FixedSizeList.is, c.as_fixed_size_list.ensures) at c.requires))
 
-pub raw_windows-returns-in-FixedSizeList : goal.raw_windows-returns-in-FixedSizeList
-raw_windows-returns-in-FixedSizeList g t c =
-    rw (c.in-FixedSizeList.is, c.as_fixed_size_list.ensures) c.fixed_size_list_windows.ensures
+pub equal_windows-as_struct-requires : goal.equal_windows-as_struct-requires
+equal_windows-as_struct-requires g t c = rw (← c.requires.one_type, c.in-Struct.is) refl
 
-pub raw_windows-as_struct-requires : goal.raw_windows-as_struct-requires
-raw_windows-as_struct-requires g t c = rw (← c.requires.one_type, c.in-Struct.is) refl
-
-pub raw_windows-struct_windows-requires : goal.raw_windows-struct_windows-requires
-raw_windows-struct_windows-requires g t c κs within =
+pub equal_windows-eq_structs-raw-requires : goal.equal_windows-eq_structs-raw-requires
+equal_windows-eq_structs-raw-requires g t c κs within =
     (search (rules, the_lemmas), (within, rw (c.in-Struct.is, c.as_struct.ensures) at c.requires))
 
-pub raw_windows-returns-in-Struct : goal.raw_windows-returns-in-Struct
-raw_windows-returns-in-Struct g t c = rw (c.in-Struct.is, c.as_struct.ensures) c.struct_windows.ensures
+pub equal_windows-as_dictionary-requires : goal.equal_windows-as_dictionary-requires
+equal_windows-as_dictionary-requires g t c = rw (← c.requires.one_type, c.in-Dictionary.is) refl
 
-pub raw_windows-as_dictionary-requires : goal.raw_windows-as_dictionary-requires
-raw_windows-as_dictionary-requires g t c = rw (← c.requires.one_type, c.in-Dictionary.is) refl
-
-pub raw_windows-dictionary_windows-requires : goal.raw_windows-dictionary_windows-requires
-raw_windows-dictionary_windows-requires g t c κs within =
+pub equal_windows-eq_dictionaries-raw-requires : goal.equal_windows-eq_dictionaries-raw-requires
+equal_windows-eq_dictionaries-raw-requires g t c κs within =
     (search (rules, the_lemmas), (within, rw (c.in-Dictionary.is, c.as_dictionary.ensures) at c.requires))
-
-pub raw_windows-returns-in-Dictionary : goal.raw_windows-returns-in-Dictionary
-raw_windows-returns-in-Dictionary g t c =
-    rw (c.in-Dictionary.is, c.as_dictionary.ensures) c.dictionary_windows.ensures
 
 pub nested_row-as_dictionary-requires : goal.nested_row-as_dictionary-requires
 nested_row-as_dictionary-requires g t c = rw (← c.requires.one_type, c.in-Dictionary.is) refl
@@ -343,9 +399,6 @@ raw_row-returns-in-Null-clause-told g t c = c.nested_row.ensures.told
 pub raw_row-returns-in-Null-clause-counted : goal.raw_row-returns-in-Null-clause-counted
 raw_row-returns-in-Null-clause-counted g t c = c.nested_row.ensures.counted
 
-pub equal_windows-raw_windows-requires : goal.equal_windows-raw_windows-requires
-equal_windows-raw_windows-requires g t c κs within = (omega arith, (within, c.requires))
-
 pub join_column-equal_windows-requires : goal.join_column-equal_windows-requires
 join_column-equal_windows-requires g t c κs within = (omega arith, (within, c.requires.windows))
 
@@ -355,8 +408,8 @@ join_column-returns-clause-counted g t c = c.in_ok-same.ensures.counted
 pub join_column-returns-clause-kept : goal.join_column-returns-clause-kept
 join_column-returns-clause-kept g t c = c.in_ok-same.ensures.kept
 
-pub struct_windows-equal_windows-requires : goal.struct_windows-equal_windows-requires
-struct_windows-equal_windows-requires g t c κs within =
+pub eq_structs-equal_windows-requires : goal.eq_structs-equal_windows-requires
+eq_structs-equal_windows-requires g t c κs within =
     let pair = c.column_pair.ensures in (
       omega (arith, pair.smaller),
       (
@@ -371,8 +424,8 @@ struct_windows-equal_windows-requires g t c κs within =
       ),
     )
 
-pub dictionary_windows-returns : goal.dictionary_windows-returns
-dictionary_windows-returns g t c =
+pub eq_dictionaries-returns : goal.eq_dictionaries-returns
+eq_dictionaries-returns g t c =
     let all : c.loop-i.i ≡ c.args.n = omega arith in
     record {
       told = rw (c.freeze.ensures, ← all) c.loop-i.invariant.0;
@@ -380,8 +433,8 @@ dictionary_windows-returns g t c =
       kept = c.loop-i.invariant.2;
     }
 
-pub list_windows-returns : goal.list_windows-returns
-list_windows-returns g t c =
+pub eq_lists-returns : goal.eq_lists-returns
+eq_lists-returns g t c =
     let all : c.loop-done.done ≡ c.args.n = omega (arith, c.loop-done.invariant.0) in
     record {
       told = rw (c.freeze.ensures, ← all) c.loop-done.invariant.1;
@@ -389,8 +442,8 @@ list_windows-returns g t c =
       kept = c.loop-done.invariant.3;
     }
 
-pub dictionary_windows-equal_entries-requires : goal.dictionary_windows-equal_entries-requires
-dictionary_windows-equal_entries-requires g t c κs within = (
+pub eq_dictionaries-equal_entries-requires : goal.eq_dictionaries-equal_entries-requires
+eq_dictionaries-equal_entries-requires g t c κs within = (
   omega arith,
   (
     within,

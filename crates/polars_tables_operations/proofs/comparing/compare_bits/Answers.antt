@@ -1,7 +1,7 @@
 use Rattle.std.proofs.Common.{refl}
 use Rattle.std.specs.Prelude.{true, false}
 use Rattle.polars_compare_leaves.specs.Order.{row_less, row_at_most, row_greater, row_at_least}
-use Rattle.polars_tables_operations.specs.declared.operation.Comparison.TheVariants.{Equal, Unequal, Less, LessOrEqual, Greater, GreaterOrEqual, EqualMissing, UnequalMissing}
+use Rattle.polars_tables_operations.specs.declared.operation.ComparisonKind.TheVariants.{Equal, Unequal, Less, LessOrEqual, Greater, GreaterOrEqual, EqualMissing, UnequalMissing}
 use Rattle.polars_tables_operations.proofs.Comparisons.{Setting, order_result, equality_result, missing_result}
 use Rattle.polars_tables_operations.proofs.comparing.compare_bits.Goals as goal
 

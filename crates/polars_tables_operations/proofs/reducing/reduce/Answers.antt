@@ -1,6 +1,6 @@
 use Rattle.std.specs.List.{list_all, list_any}
 use Rattle.polars_compare_leaves.specs.Order.{row_greater, row_less}
-use Rattle.polars_compute_bits.specs.Bitwise.{is_odd}
+use Rattle.polars_compute_reductions.specs.Bitwise.{is_odd}
 use Rattle.polars_tables_operations.proofs.Found.{best-is, reduced-is}
 use Rattle.polars_tables_operations.proofs.reducing.reduce.Goals as goal
 

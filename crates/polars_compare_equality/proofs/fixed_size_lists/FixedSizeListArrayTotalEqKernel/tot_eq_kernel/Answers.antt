@@ -16,6 +16,6 @@ returns-then-width c =
 pub returns : goal.returns
 returns c =
     let widths = sym c.width.ensures ∙ c.if-width.false ∙ c.width-2.ensures in
-    MatchResult-weaker c.fixed_size_list_windows.result c.fixed_size_list_windows.ensures.told
+    MatchResult-weaker c.eq_fixed_size_lists.result c.eq_fixed_size_lists.ensures.told
     (λ bits raw. equal-bits (FixedSizeList c.args.self.now) (FixedSizeList c.args.other.now) (stored_fixed_list c.args.self.now) (stored_fixed_list c.args.other.now) _ _ _ bits (λ i low. refl) (λ i low. refl) c.len-n.ensures c.requires.comparable.0 (ap₂ FixedSizeListKind c.requires.comparable.1 widths) raw)
     (λ error m. m)

@@ -19,6 +19,6 @@ returns-then-not-same_fields c =
 pub returns : goal.returns
 returns c =
     let fields = sym (ap kinds_of c.fields.ensures) ∙ c.same_fields.ensures.0 c.if-not-same_fields.false ∙ ap kinds_of c.fields-2.ensures in
-    MatchResult-weaker c.struct_windows.result c.struct_windows.ensures.told
+    MatchResult-weaker c.eq_structs.result c.eq_structs.ensures.told
     (λ bits raw. equal-bits (Struct c.args.self.now) (Struct c.args.other.now) (stored_struct c.args.self.now) (stored_struct c.args.other.now) _ _ _ bits (λ i low. row-struct c.args.self.now i) (λ i low. row-struct c.args.other.now i) c.len-n.ensures c.requires.comparable (ap StructKind fields) raw)
     (λ error m. m)

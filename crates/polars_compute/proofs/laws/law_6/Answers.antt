@@ -1,6 +1,0 @@
-use Rattle.num_traits.specs.Laws.{bit_len}
-use Rattle.polars_compute.proofs.SumsOfParts.{sums-join}
-use Rattle.polars_compute.proofs.laws.law_6.Goals as goal
-
-pub returns : goal.returns
-returns g c = sums-join g.T.Bounded.low (bit_len g.T.FixedWidth.width)

@@ -1,0 +1,11 @@
+pub mod BitCounts
+pub mod BitSteps
+pub mod CommonBits
+pub mod CountedRows
+pub mod Examples
+pub mod FoldExamples
+pub mod FoldSteps
+pub mod LaneSteps
+pub mod Reductions
+pub mod TruthRows
+pub mod WordFlags

@@ -1,0 +1,12 @@
+use Rattle.std.proofs.Common.{◌||◌, bit_or, false}
+use Rattle.num_traits.specs.Laws.{bit_len}
+use Rattle.polars_compute_reductions.proofs.BitSteps.{joined-value}
+use Rattle.polars_compute_reductions.specs.BitLaws.{or_operator}
+use Rattle.polars_compute_reductions.proofs.bit_operators.OrOperator.join.Goals as goal
+
+pub returns : goal.returns
+returns g c =
+    joined-value g.T.Number.value g.T.FixedWidth.of_bits g.T.Number.wrap g.T.Bounded.low (bit_len g.T.FixedWidth.width) g.met.T.FixedWidth.of_bits_law g.met.T.WrappingNumber.wrapped_law
+    bit_or ◌||◌ false or_operator (g.T.FixedWidth.bits_of c.args.left) (g.T.FixedWidth.bits_of c.args.right) _ _ c.bitor.result
+    (g.met.T.FixedWidth.bits_of_law c.args.left c.law_fits.ensures) (g.met.T.FixedWidth.bits_of_law c.args.right c.law_fits-2.ensures)
+    (g.met.T.PrimInt.bitor_law c.args.left c.args.right c.bitor.result c.bitor.ensures)

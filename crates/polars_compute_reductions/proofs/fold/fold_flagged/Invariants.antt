@@ -1,0 +1,7 @@
+use Rattle.std.proofs.Common.{◌≡◌, take, map}
+use Rattle.polars_arrays_flat.specs.StoredRows.{masked, number_slots}
+use Rattle.polars_compute_reductions.specs.Folds.{folded}
+use Rattle.polars_compute_reductions.proofs.fold.fold_flagged.Given as goal
+
+abbrev pub invariant-loop-i : goal.invariant-loop-i
+invariant-loop-i g l = g.T.Number.value l.total ≡ folded g.O.Operator.joined (g.O.Operator.neutral l.operator) (take l.i (masked (map g.F.Flag.set l.flags) (number_slots g.T.Number.value l.numbers)))

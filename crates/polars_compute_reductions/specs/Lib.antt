@@ -1,0 +1,5 @@
+pub mod BitLaws
+pub mod Bitwise
+pub mod Folds
+pub mod Sum
+pub mod SumLaws
