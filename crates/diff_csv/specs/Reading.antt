@@ -14,6 +14,7 @@ use Rattle.csv.specs.declared.reader.Trim.TheVariants as trim
 use Rattle.diff_csv.specs.Options.{config_of, is_delimiter}
 use Rattle.diff_csv.specs.Quotes.{ends_open, mark}
 use Rattle.diff_csv.specs.Records.{AreRecordsOf}
+use Rattle.diff_csv.specs.declared.ends.Ends.{Ends}
 use Rattle.diff_csv.specs.declared.options.CsvOptions.{CsvOptions}
 use Rattle.diff_csv.specs.declared.reading.Records.{Records}
 use Rattle.diff_csv.specs.declared.source.Source.{Source}
@@ -35,10 +36,15 @@ HasReadOne remaining options text reader rows fields true =
     HasRead remaining options text reader (rows ++ fields ∷ [])
 HasReadOne remaining options text reader rows fields false = AreRecordsOf options text rows
 
+-- the bytes that are left to a reader that keeps those of its last read
+abbrev pub ends_remaining : {R : Type 0} → (R → Option (List ℕ)) → Ends R → Option (List ℕ)
+ends_remaining remaining reader = remaining reader.inner
+
 -- the bytes that are left of a text and of the mark after it
-abbrev pub marked_remaining : {R : Type 0} → (R → Option (List ℕ)) → Chain R (Bor (List ℕ))
+abbrev pub marked_remaining : {R : Type 0} → (R → Option (List ℕ)) → Ends (Chain R (Bor (List ℕ)))
     → Option (List ℕ)
-marked_remaining remaining = chain_remaining remaining (λ (s : Bor (List ℕ)). Some s.now)
+marked_remaining remaining =
+    ends_remaining (chain_remaining remaining (λ (s : Bor (List ℕ)). Some s.now))
 
 -- these records of the text are given, and the one after them is read: the mark's, where the text
 -- has no more

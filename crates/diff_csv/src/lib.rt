@@ -3,6 +3,7 @@
 //! one.
 #![tactic(auto)]
 
+mod ends;
 pub mod error;
 mod lines;
 mod names;

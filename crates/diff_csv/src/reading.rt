@@ -16,8 +16,9 @@ ghost use Rattle.diff_csv.specs.Reading.{marked_remaining};
 ghost use Rattle.diff_csv.specs.Records.{IsReadFault};
 ghost use Rattle.diff_csv.specs.declared.options.CsvOptions.{CsvOptions};
 
+use crate::ends::Ends;
 use crate::error::{CsvError, fault_of};
-use crate::lines::{is_one_byte, lag_behind, line_at, line_of};
+use crate::lines::line_of;
 use crate::options::CsvOptions;
 use csv::{ByteRecord, Reader, ReaderBuilder};
 use std::alloc::Global;
@@ -42,15 +43,16 @@ fn reader_of<R: Read>(
     alloc: Global,
     input: R,
     options: CsvOptions,
-) -> Reader<Chain<R, &'static [u8]>>
+) -> Reader<Ends<Chain<R, &'static [u8]>>>
     ensures { (text : List ℕ) → R.remaining input ≡ Some text
         → HasRead (marked_remaining R.remaining) options (text ++ mark) result [] }
 {
+    let marked = Ends::new(input.chain(MARK));
     ReaderBuilder::new()
         .has_headers(false)
         .flexible(true)
         .delimiter(options.delimiter)
-        .from_reader(alloc, input.chain(MARK))
+        .from_reader(alloc, marked)
 }
 
 /// Reads the next record into `row`. Returns whether there was one.
@@ -70,13 +72,11 @@ fn read_record<R: Read>(reader: &mut Reader<R>, row: &mut ByteRecord) -> Result<
 
 /// Records of a text that are given one after another.
 pub(crate) struct Records<R> {
-    reader: Reader<Chain<R, &'static [u8]>>,
+    reader: Reader<Ends<Chain<R, &'static [u8]>>>,
     // The record after those that were given. It is the mark's if the text has no more records.
     ahead: Box<ByteRecord>,
-    // The line at which the reader began to look for it.
-    from: u64,
-    // The number of lines by which the reader's lines of later records lag.
-    lag: u64,
+    // The line at which it begins.
+    line: u64,
 }
 
 // By hand, so that each place where records go out of scope is one call.
@@ -85,8 +85,7 @@ impl<R: Drop> Drop for Records<R> {
         let Records {
             reader,
             ahead,
-            from: _,
-            lag: _,
+            line: _,
         } = self;
         drop(reader);
         drop(ahead);
@@ -105,21 +104,12 @@ impl<R: Read + Drop> Records<R> {
         let mut reader = reader_of(alloc, input, options);
         // There is a record, if only the mark's.
         read_record(&mut reader, &mut ahead)?;
-        let from = line_at(ahead.position(), 0);
-        let lag = lag_behind(&ahead, reader.position());
+        let line = line_of(&reader, &ahead);
         Ok(Records {
             reader,
             ahead,
-            from,
-            lag,
+            line,
         })
-    }
-
-    /// Returns the line at which the record before the one ahead ends.
-    fn line_before(&self) -> u64 {
-        let is_ended_by_mark = is_one_byte(self.ahead.position(), self.reader.position());
-        let lag = if is_ended_by_mark { self.lag } else { 0 };
-        self.from.saturating_sub(1).saturating_sub(lag)
     }
 
     /// Reads the next record into `row`. Returns the line on which it begins, or `None` if there
@@ -134,16 +124,15 @@ impl<R: Read + Drop> Records<R> {
             → IsReadFault options text error) }
         ensures fault { IfErr result IsNoRecord }
     {
-        let from = self.from;
+        let line = self.line;
         mem::swap(row, &mut self.ahead);
         if read_record(&mut self.reader, &mut self.ahead)? {
-            self.from = line_at(self.ahead.position(), self.lag);
-            return Ok(Some(line_of(row, from, self.line_before())));
+            self.line = line_of(&self.reader, &self.ahead);
+            return Ok(Some(line));
         }
         if is_mark(row) {
             return Ok(None);
         }
-        let line = line_of(row, from, self.reader.position().line());
         Err(CsvError::OpenQuote { line })
     }
 }

@@ -33,9 +33,8 @@ use std::io::Read;
 pub struct CsvTable {
     /// The rows that were asked for, each with its cells in the columns that were asked for.
     pub table: Table,
-    /// The line at which each row begins, from 1 on. It is right if all records end in LF, or all
-    /// in CR LF. Empty lines and line feeds in quoted fields count. Empty lines before the first
-    /// record may make the later lines of a CR LF text one too low.
+    /// The line at which each row begins, from 1 on. Empty lines and line feeds in quoted fields
+    /// count. A carriage return alone ends a record, and counts as no line.
     pub lines: Vec<u64>,
     /// The number of each row among all rows of the text, from 1 on, if only the rows of a part
     /// were read.

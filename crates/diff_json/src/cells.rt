@@ -1,4 +1,4 @@
-//! Cells.
+//! Cells of CSV, in JSON reports.
 
 ghost use Rattle.std.specs.Option.{option_map};
 ghost use Rattle.std.specs.Prelude.{◌≡◌, ◌++◌, OnOk};

@@ -21,8 +21,9 @@ pub enum LentCells<'a> {
     Far(&'a BinaryArray<i64>),
 }
 
-/// Returns the ends of 32 bits, followed by those of 64 bits, all as ends of 64 bits.
-pub fn all_ends(alloc: Global, near: &[i32], far: &[i64]) -> Result<Vec<i64>, AllocError>
+/// Widens the offsets `near` to 64 bits, and appends `far`: the offsets of strings that began with
+/// 32 bits and went on with 64.
+pub fn all_offsets(alloc: Global, near: &[i32], far: &[i64]) -> Result<Vec<i64>, AllocError>
     ensures { IfOk result (λ ends. ends.items ≡ near.now ++ far.now) }
 {
     let mut ends = Vec::with_capacity(alloc, near.len().saturating_add(far.len()))?;
@@ -61,7 +62,7 @@ fn widened(
     requires { bytes.now.items ≡ array.now.values }
     ensures { MatchResult result (HoldsCells true (offset_strings (λ x. x) array.now)) IsMemory }
 {
-    let ends = all_ends(alloc, array.offsets(), &[])?;
+    let ends = all_offsets(alloc, array.offsets(), &[])?;
     let offsets = Buffer::from_vec(ends);
     let values = bytes.clone_buffer(alloc)?;
     match BinaryArray::try_new(offsets, values, None) {

@@ -101,8 +101,8 @@ fn push_totals(out: &mut Vec<u8>, totals: &Totals) -> Result<(), AllocError>
     Ok(())
 }
 
-/// Appends the name of a column where its count is not 0, and the count, as the element of a list
-/// that has `written` elements already. Returns how many it has then.
+/// Appends `NAME COUNT` of a column, after a comma unless it is the first of the list, or nothing
+/// if its count is 0. `written` says how many were appended before. Returns how many are now.
 fn push_if_counted(
     out: &mut Vec<u8>,
     names: &BinaryArray<i64>,

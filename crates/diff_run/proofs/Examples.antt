@@ -55,6 +55,11 @@ no-columns o layout left right common = rw common refl
 none-left : (o : Options) (layout : Layout) → o.common ≡ true → layout.left.items ≡ [] → nothing_left o (codes "id" ∷ []) (codes "day" ∷ []) layout ≡ true
 none-left o layout common left = rw (common, left) refl
 
+-- where the key alone is in both, and the other columns are left out, none is left
+key-left : (o : Options) (layout : Layout) → o.common ≡ true → layout.left.items ≡ 0 ∷ [] → layout.keys.items ≡ 0 ∷ []
+    → layout.left_alone.items ≡ 1 ∷ [] → nothing_left o (codes "id" ∷ codes "city" ∷ []) (codes "id" ∷ codes "day" ∷ []) layout ≡ true
+key-left o layout common left keys alone = rw (common, left, keys, alone) refl
+
 -- tables without columns have none that could be left
 none-there : (o : Options) (layout : Layout) → nothing_left o [] [] layout ≡ false
 none-there o layout = refl

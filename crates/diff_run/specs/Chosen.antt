@@ -1,8 +1,8 @@
 -- What the options choose of the columns of two tables.
 --
 -- Of tables with the columns "id", "city" and "id", "day" the options may ignore "day", but not
--- "age", which is unknown to both. Where "id" is ignored, and columns that one table has alone are
--- left out, no column is left.
+-- "age", which is unknown to both. Where columns that one table has alone are left out, no column is
+-- left to compare: "id" is the key, or is ignored.
 use Rattle.std.specs.Borrow.{Bor}
 use Rattle.std.specs.Prelude.{◌≡◌, ◌==◌, ◌&&◌, ◌||◌, ℕ, Bool, true, not, List, [], All}
 use Rattle.std.specs.Prelude.{Option, None, Some, length, codes, map}
@@ -55,11 +55,20 @@ pub record AreKnown (options : Options) (left right : Names) : Type 0 where
 abbrev pub no_columns : Layout → Bool
 no_columns layout = (length layout.left_alone.items == 0) && (length layout.right_alone.items == 0)
 
--- one of two tables has columns, but none is compared, and none that one has alone is reported
+-- columns that one table has alone are left out, and only those of the key are in both
+abbrev pub key_alone : Options → Layout → Bool
+key_alone options layout = options.common && not (no_columns layout)
+    && (length layout.left.items == length layout.keys.items)
+
+-- no column is compared, and none that one table has alone is reported
+abbrev pub none_compared : Options → Layout → Bool
+none_compared options layout =
+    (length layout.left.items == 0) && (options.common || no_columns layout)
+
+-- one of two tables has columns, but none is compared or reported, or only those of the key are
 abbrev pub nothing_left : Options → Names → Names → Layout → Bool
-nothing_left options left right layout =
-    not ((length left == 0) && (length right == 0)) && (length layout.left.items == 0)
-    && (options.common || no_columns layout)
+nothing_left options left right layout = not ((length left == 0) && (length right == 0))
+    && (none_compared options layout || key_alone options layout)
 
 -- a name of the options is unknown to both tables
 abbrev pub IsUnknownName : Options → Names → Names → ChoiceError → Type 0

@@ -4,7 +4,7 @@ ghost use Rattle.std.specs.Prelude.{◌≡◌, ◌↔◌, All, IsTrue, MatchOpti
 ghost use Rattle.polars_arrays_bytes.specs.OffsetStrings.{offset_strings};
 ghost use Rattle.diff_columns.specs.Names.{IsKnown, IsUnknown};
 ghost use Rattle.diff_run.specs.Chosen.{AreKnown, IsUnknownName, columns_given, columns_of};
-ghost use Rattle.diff_run.specs.Chosen.{names_given, nothing_left};
+ghost use Rattle.diff_run.specs.Chosen.{key_alone, names_given, nothing_left};
 ghost use Rattle.diff_run.specs.Heads.{AreChosen, IsHeadsFault};
 
 use crate::error::{ChoiceError, NameList, RunError};
@@ -115,8 +115,18 @@ fn unknown_name(
     None
 }
 
+/// Returns whether columns that one input has alone are left out, and only those of the key are in
+/// both.
+fn key_alone(layout: &Layout, options: &Options<'_>) -> bool
+    ensures { result ≡ key_alone options.now layout.now }
+{
+    let are_alone = !layout.left_alone.is_empty() || !layout.right_alone.is_empty();
+    options.common && are_alone && layout.left.len() == layout.keys.len()
+}
+
 /// Returns whether nothing is left to compare or to report: an input has columns, but no column is
-/// compared, and none is reported as being in one input alone.
+/// compared, or with `common` only those of the key, and none is reported as being in one input
+/// alone.
 fn nothing_left(
     left: &BinaryArray<i64>,
     right: &BinaryArray<i64>,
@@ -130,7 +140,8 @@ fn nothing_left(
     let are_bare = left.count() == 0 && right.count() == 0;
     let same_columns = layout.left_alone.is_empty() && layout.right_alone.is_empty();
     let is_silent = options.common || same_columns;
-    !are_bare && layout.left.is_empty() && is_silent
+    let none_compared = layout.left.is_empty() && is_silent;
+    !are_bare && (none_compared || key_alone(layout, options))
 }
 
 /// Tests that each column that the options name is in one of the inputs, and that something is left

@@ -90,7 +90,7 @@ fn compared(alloc: Global, sides: &Sides) -> Result<Comparison, RunError>
     }
 }
 
-/// Appends the report of two sides.
+/// Appends the report of two sides in the format of the options.
 fn push_all(
     alloc: Global,
     out: &mut Vec<u8>,

@@ -9,7 +9,7 @@ ghost use Rattle.diff_tables.specs.Strings.{AreStrings};
 
 use crate::cells::Cells;
 use crate::string_list::StringList;
-use diff_pairs::cells::all_ends;
+use diff_pairs::cells::all_offsets;
 use polars_arrays_bits::buffer::Buffer;
 use polars_arrays_bits::error::ComputeError;
 use polars_arrays_bytes::binary::BinaryArray;
@@ -124,7 +124,7 @@ impl Strings {
             far_ends,
             bytes,
         } = self;
-        let ends = all_ends(alloc, &ends, &far_ends)?;
+        let ends = all_offsets(alloc, &ends, &far_ends)?;
         let offsets = Buffer::from_vec(ends).share(alloc)?;
         let values = Buffer::from_vec(bytes).share(alloc)?;
         match BinaryArray::try_new(offsets, values, None) {

@@ -1,4 +1,4 @@
-//! Cells, as reports print them.
+//! Cells of CSV, as reports print them.
 
 ghost use Rattle.std.specs.Option.{option_map};
 ghost use Rattle.std.specs.Prelude.{◌≡◌, ◌++◌, OnOk};
