@@ -1,4 +1,10 @@
-//! The contents of the words of options.
+//! The options of the program `dunkelva`, on its command line and in a file.
 #![tactic(auto)]
 
+pub mod command;
+pub mod config;
+mod given;
 pub mod lists;
+pub mod options;
+pub mod refusals;
+mod schema_command;

@@ -1,0 +1,132 @@
+//! The progress of a long comparison, on standard error.
+
+ghost use Rattle.std.specs.Prelude.{ℕ, List, Option};
+
+use dunkelva_messages::files::Source;
+use std::cell::Cell;
+use std::io;
+use std::io::{IsTerminal, Read, Write};
+use std::time::Instant;
+
+/// The time before the first line, in milliseconds.
+const SILENCE: u128 = 1000;
+
+/// The least time between two lines, in milliseconds.
+const PAUSE: u128 = 100;
+
+/// The bytes that are read so far, and the state of the line that reports them.
+#[derive(Clone, Copy)]
+struct Reading {
+    /// The number of bytes that are read.
+    bytes: u64,
+    /// The time of the next line, in milliseconds from the start.
+    next: u128,
+    /// `true` if a line stands on the terminal.
+    is_shown: bool,
+}
+
+/// A line on standard error that says how many bytes are read. It is shown only on a terminal, and
+/// if the run takes more than a second.
+#[derive(Drop)]
+pub(crate) struct Progress<'a> {
+    rt: &'a HostRuntime,
+    // `None` if no line is to be shown.
+    start: Option<Instant>,
+    // The number of bytes of all inputs, if it is known.
+    total: Option<u64>,
+    reading: Cell<Reading>,
+}
+
+impl<'a> Progress<'a> {
+    /// Begins to count. `total` is the number of bytes of all inputs, if it is known.
+    pub(crate) fn new(rt: &'a HostRuntime, total: Option<u64>) -> Progress<'a> {
+        let start = if rt.stderr().is_terminal() {
+            Instant::now(rt).ok()
+        } else {
+            None
+        };
+        let reading = Reading {
+            bytes: 0,
+            next: SILENCE,
+            is_shown: false,
+        };
+        Progress {
+            rt,
+            start,
+            total,
+            reading: Cell::new(reading),
+        }
+    }
+
+    /// Counts bytes that were read, and shows the line again when it is time.
+    fn add(&self, bytes: usize) {
+        let Some(start) = self.start else {
+            return;
+        };
+        let mut reading = self.reading.get();
+        reading.bytes = reading.bytes.saturating_add(bytes as u64);
+        let time = match start.elapsed(self.rt) {
+            Ok(elapsed) => elapsed.as_millis(),
+            Err(_) => 0,
+        };
+        if reading.next <= time {
+            reading.next = time.saturating_add(PAUSE);
+            reading.is_shown = true;
+            self.say(reading.bytes);
+        }
+        self.reading.set(reading);
+    }
+
+    /// Shows how many bytes are read, in place of the line before.
+    fn say(&self, bytes: u64) {
+        let _ = match self.total {
+            Some(total) => eprint!(self.rt; "\r{bytes} of {total} bytes read"),
+            None => eprint!(self.rt; "\r{bytes} bytes read"),
+        };
+    }
+
+    /// Erases the line.
+    pub(crate) fn erase(&self) {
+        let mut reading = self.reading.get();
+        if reading.is_shown {
+            let _ = eprint!(self.rt; "\r\x1b[K");
+            reading.is_shown = false;
+            self.reading.set(reading);
+        }
+    }
+}
+
+/// A source whose bytes are counted.
+#[derive(Drop)]
+pub(crate) struct Counted<'a> {
+    pub(crate) source: Source,
+    pub(crate) progress: &'a Progress<'a>,
+}
+
+impl Read for Counted<'_> {
+    fn read(&mut self, buf: &mut [u8]) -> io::Result<usize> {
+        let bytes = self.source.read(buf)?;
+        self.progress.add(bytes);
+        Ok(bytes)
+    }
+}
+
+/// A writer that erases the line before it writes.
+#[derive(Drop)]
+pub(crate) struct Cleared<'a, W> {
+    pub(crate) writer: W,
+    pub(crate) progress: &'a Progress<'a>,
+}
+
+impl<W: Write> Write for Cleared<'_, W> {
+    ghost contents = { λ cleared. W.contents cleared.writer };
+
+    fn write(&mut self, buf: &[u8]) -> io::Result<usize> {
+        self.progress.erase();
+        self.writer.write(buf)
+    }
+
+    fn flush(&mut self) -> io::Result<()> {
+        self.writer.flush()
+    }
+}

@@ -1,0 +1,224 @@
+//! The command that the words of the program name, and its exit status.
+
+use crate::only::warn_of_unknown;
+use crate::outputs::refuse_own_target;
+use crate::schema::show_schema;
+use crate::schema_changes::compare_schemas;
+use crate::tasks::{Task, compare_named};
+use clap::ArgMatches;
+use diff_columns::choice::Choice;
+use diff_run::options::Options;
+use diff_tolerances::cells::Tolerance;
+use document_rows::reading::Reading;
+use document_run::options::DocumentOptions;
+use dunkelva_messages::error::Result;
+use dunkelva_messages::hints::{explained, refuse_packed};
+use dunkelva_messages::trouble;
+use dunkelva_options::command::command;
+use dunkelva_options::config::{Config, config_for, joined, named_files, with_file};
+use dunkelva_options::refusals::{advice_for, without_tips};
+use dunkelva_settings::keys::{Keys, keys_of};
+use dunkelva_settings::kinds::{
+    hold_documents, refuse_document_options, refuse_table_options, refuse_two_formats,
+};
+use dunkelva_settings::parts::{part_of, part_of_rows, refuse_unsorted};
+use dunkelva_settings::rules::rules_of;
+use dunkelva_settings::tolerances::tolerances_of;
+use dunkelva_settings::words::{
+    Names, Target, csv_options, format_of, is_colored, limit_of, target_of,
+};
+use json_changes::changes::Rules;
+use std::env;
+
+/// The exit status if the files can't be compared.
+const TROUBLE: u8 = 2;
+
+/// Compares two CSV files by these columns and tolerances, writes the report to the target, and
+/// returns the exit status.
+fn diff_by_names(
+    rt: &HostRuntime,
+    matches: &ArgMatches<'_>,
+    (left, right): (&str, &str),
+    names: &Names<'_>,
+    tolerances: &[Tolerance<'_>],
+    target: Target<'_>,
+) -> Result<u8> {
+    let choice = Choice {
+        keys: &names.keys,
+        only: matches.contains_id("only").then_some(names.only.as_slice()),
+        ignored: &names.ignored,
+    };
+    let options = Options {
+        choice,
+        csv: csv_options(matches, left, right)?,
+        numbers: matches
+            .get_flag("numbers")
+            .then_some(names.texts.as_slice()),
+        tolerances: (!tolerances.is_empty()).then_some(tolerances),
+        part: part_of_rows(matches, names)?,
+        null: matches.get_str("null").map(|word| word.as_bytes()),
+        limit: limit_of(matches)?,
+        common: matches.get_flag("common"),
+        unique: matches.get_flag("unique"),
+        format: format_of(matches),
+        colored: is_colored(rt, matches),
+    };
+    if matches.get_flag("sorted") {
+        refuse_unsorted(matches)?;
+        return compare_named(rt, left, right, Task::Sorted(&options), target);
+    }
+    compare_named(rt, left, right, Task::Tables(&options), target)
+}
+
+/// Compares two CSV files, writes the report to the target, and returns the exit status.
+fn diff_tables(
+    rt: &HostRuntime,
+    matches: &ArgMatches<'_>,
+    files: (&str, &str),
+    target: Target<'_>,
+) -> Result<u8> {
+    refuse_document_options(matches)?;
+    let names = Names::of(rt.alloc(), matches)?;
+    let tolerances = tolerances_of(rt.alloc(), matches, &names.keys)?;
+    diff_by_names(rt, matches, files, &names, &tolerances, target)
+}
+
+/// Compares two files of documents by these keys and rules, writes the report to the target, and
+/// returns the exit status.
+fn diff_by_paths(
+    rt: &HostRuntime,
+    matches: &ArgMatches<'_>,
+    (left, right): (&str, &str),
+    keys: &Keys<'_>,
+    rules: &Rules,
+    target: Target<'_>,
+) -> Result<u8> {
+    let options = DocumentOptions {
+        keys: &keys.paths,
+        names: &keys.names,
+        reading: Reading {
+            null_keys: matches.get_flag("no-key-is-null"),
+            skip_bad: matches.get_flag("skip-bad"),
+            part: part_of(matches)?,
+        },
+        rules,
+        limit: limit_of(matches)?,
+        unique: matches.get_flag("unique"),
+        format: format_of(matches),
+        colored: is_colored(rt, matches),
+    };
+    let status = compare_named(rt, left, right, Task::Documents(&options), target)?;
+    warn_of_unknown(rt, matches, &rules.only, left, right);
+    Ok(status)
+}
+
+/// Compares two files of documents, writes the report to the target, and returns the exit status.
+fn diff_documents(
+    rt: &HostRuntime,
+    matches: &ArgMatches<'_>,
+    files: (&str, &str),
+    target: Target<'_>,
+) -> Result<u8> {
+    refuse_table_options(matches)?;
+    let keys = keys_of(rt.alloc(), matches)?;
+    let rules = rules_of(rt.alloc(), matches)?;
+    diff_by_paths(rt, matches, files, &keys, &rules, target)
+}
+
+/// Compares the two files that the words name.
+fn diff(rt: &HostRuntime, matches: &ArgMatches<'_>, config: &Config) -> Result<u8> {
+    let (first, second) = (matches.get_str("left"), matches.get_str("right"));
+    let (left, right) = named_files(first, second, config)?;
+    let target = target_of(rt, matches)?;
+    if matches.get_flag("schema-only") {
+        limit_of(matches)?;
+        let shown = compare_schemas(rt, matches, left, right);
+        return shown.map_err(|error| explained(rt, error, &[left, right]));
+    }
+    refuse_own_target(rt, &[left, right], target)?;
+    refuse_two_formats(rt, matches, left, right)?;
+    if hold_documents(matches, left, right)? {
+        return diff_documents(rt, matches, (left, right), target);
+    }
+    diff_tables(rt, matches, (left, right), target)
+}
+
+/// Prints the schema of the file that the words name.
+fn print_schema(rt: &HostRuntime, matches: &ArgMatches<'_>) -> Result<u8> {
+    let file = matches.get_str("file").unwrap_or("-");
+    refuse_packed(rt, file)?;
+    show_schema(rt, matches).map_err(|error| explained(rt, error, &[file]))
+}
+
+/// Runs the command that parsed words name, and returns the status.
+fn run_matches(rt: &HostRuntime, matches: &ArgMatches<'_>, config: &Config) -> Result<u8> {
+    match matches.subcommand() {
+        Some(("diff", matches)) => diff(rt, matches, config),
+        Some(("schema", matches)) => print_schema(rt, matches),
+        _ => Err(trouble!("no command is given")),
+    }
+}
+
+/// Prints why words are refused: the text of an error, and advice.
+fn print_reason(rt: &HostRuntime, words: &[&str], error: &clap::Error) -> Result<()> {
+    let advice = advice_for(rt, words, error.kind());
+    let text = format!(in rt.alloc(); "{error}")?;
+    let text = without_tips(rt.alloc(), &text, advice.is_some())?;
+    eprint!(rt; "{text}")?;
+    if let Some(advice) = advice {
+        eprintln!(rt; "dunkelva: {advice}")?;
+    }
+    Ok(())
+}
+
+/// Prints the error for words that are refused, or the help, and returns the status.
+fn print_refusal(rt: &HostRuntime, words: &[&str], error: &clap::Error) -> Result<u8> {
+    if error.use_stderr() {
+        print_reason(rt, words, error)?;
+    } else {
+        error.print(rt)?;
+    }
+    Ok(error.exit_code() as u8)
+}
+
+/// Runs the command that these words of a command line name, and returns the status.
+fn run_command(rt: &HostRuntime, words: &[&str], config: &Config) -> Result<u8> {
+    let command = command(rt.alloc())?;
+    match command.try_get_matches_from(words) {
+        Ok(matches) => run_matches(rt, &matches, config),
+        Err(error) => print_refusal(rt, words, &error),
+    }
+}
+
+/// Runs the command that the words of the command line name, with the settings of a file.
+fn run_set(rt: &HostRuntime, words: &[String], config: &Config) -> Result<u8> {
+    let all = joined(rt.alloc(), words, &config.words)?;
+    match run_command(rt, &all, config) {
+        Ok(status) => Ok(status),
+        Err(error) => Err(with_file(error, config, words)),
+    }
+}
+
+/// Runs the command that the words of the command line name, and returns the status.
+fn run_given(rt: &HostRuntime, words: &[String]) -> Result<u8> {
+    let config = config_for(rt, words)?;
+    run_set(rt, words, &config)
+}
+
+/// Runs the command that the program's command line names, and returns the status.
+fn run_words(rt: &HostRuntime) -> Result<u8> {
+    let words: Vec<String> = env::args(rt)?.collect(rt.alloc())?;
+    run_given(rt, &words)
+}
+
+/// Runs the command that the program's command line names, prints the error if there is one, and
+/// returns the exit status.
+pub fn run(rt: &HostRuntime) -> u8 {
+    match run_words(rt) {
+        Ok(status) => status,
+        Err(error) => {
+            let _ = eprintln!(rt; "dunkelva: {error}");
+            TROUBLE
+        }
+    }
+}

@@ -1,0 +1,82 @@
+//! The schema of a file: `dunkelva schema FILE`.
+
+use crate::outputs::refuse_own_output;
+use crate::trouble::{csv_trouble, schema_trouble};
+use clap::ArgMatches;
+use diff_csv::options::CsvOptions;
+use dunkelva_messages::error::Result;
+use dunkelva_messages::files::open;
+use dunkelva_messages::trouble;
+use dunkelva_settings::kinds::hold_documents;
+use dunkelva_settings::schemas::{null_in, refuse_of_documents, refuse_of_tables};
+use dunkelva_settings::words::csv_options;
+use schema_documents::said as documents;
+use schema_run::said::{Form, push_schema_of};
+use std::io;
+use std::io::{ErrorKind, Write};
+
+/// The status if nobody reads the output.
+const TROUBLE: u8 = 2;
+
+/// Returns the form of the output.
+pub(crate) fn form_in(matches: &ArgMatches<'_>) -> Form {
+    if matches.get_str("format") == Some("json") {
+        Form::Json
+    } else {
+        Form::Text
+    }
+}
+
+/// Prints a text, and returns the status. If nobody reads the output, no error is printed, as with
+/// other programs.
+pub(crate) fn print_text(rt: &HostRuntime, text: &[u8], status: u8) -> Result<u8> {
+    let mut out = io::writer(rt);
+    match out.write_all(text) {
+        Ok(()) => Ok(status),
+        Err(cause) if cause.kind() == ErrorKind::BrokenPipe => Ok(TROUBLE),
+        Err(cause) => Err(trouble!("{cause}").context("standard output")),
+    }
+}
+
+/// Returns the text of the schemas of the paths of a file's documents.
+fn documents_text(rt: &HostRuntime, matches: &ArgMatches<'_>, file: &str) -> Result<Vec<u8>> {
+    refuse_of_tables(matches)?;
+    let reader = open(rt, file, false)?;
+    let mut text = Vec::new(rt.alloc());
+    let (name, form) = (file.as_bytes(), form_in(matches));
+    let skip_bad = matches.get_flag("skip-bad");
+    match documents::push_schema_of(rt.alloc(), &mut text, name, reader, skip_bad, form) {
+        Ok(()) => Ok(text),
+        Err(error) => Err(schema_trouble(&error).context(file)),
+    }
+}
+
+/// Returns the text of the schemas of the columns of a file.
+fn schema_text(
+    rt: &HostRuntime,
+    matches: &ArgMatches<'_>,
+    file: &str,
+    options: CsvOptions,
+) -> Result<Vec<u8>> {
+    let reader = open(rt, file, false)?;
+    let mut text = Vec::new(rt.alloc());
+    let (name, null, form) = (file.as_bytes(), null_in(matches), form_in(matches));
+    match push_schema_of(rt.alloc(), &mut text, name, reader, options, null, form) {
+        Ok(()) => Ok(text),
+        Err(error) => Err(csv_trouble(&error, options).context(file)),
+    }
+}
+
+/// Prints the schema of the file that the words name, and returns the status.
+pub(crate) fn show_schema(rt: &HostRuntime, matches: &ArgMatches<'_>) -> Result<u8> {
+    let file = matches.get_str("file").unwrap_or("-");
+    refuse_own_output(rt, &[file])?;
+    if hold_documents(matches, file, file)? {
+        let text = documents_text(rt, matches, file)?;
+        return print_text(rt, &text, 0);
+    }
+    refuse_of_documents(matches)?;
+    let options = csv_options(matches, file, file)?;
+    let text = schema_text(rt, matches, file, options)?;
+    print_text(rt, &text, 0)
+}

@@ -1,0 +1,152 @@
+//! The schemas of two files, compared: `dunkelva diff --schema-only LEFT RIGHT`.
+
+use crate::outputs::refuse_own_output;
+use crate::schema::{form_in, print_text};
+use crate::trouble::{csv_trouble, schema_trouble};
+use clap::ArgMatches;
+use diff_csv::options::CsvOptions;
+use dunkelva_messages::error::Result;
+use dunkelva_messages::files::open;
+use dunkelva_messages::trouble;
+use dunkelva_settings::kinds::hold_documents;
+use dunkelva_settings::schemas::{null_in, refuse_of_documents, refuse_of_tables, refuse_others};
+use dunkelva_settings::words::csv_options;
+use schema_documents::changes_json::push_document_objects;
+use schema_documents::changes_text::push_document_lines;
+use schema_paths::read::{DocumentSchema, read_document_schema};
+use schema_report::changes::{SchemaCounts, counts_of};
+use schema_report::changes_json::push_column_objects;
+use schema_report::changes_text::push_column_lines;
+use schema_report::files::Files;
+use schema_run::read::{TableSchema, read_schema};
+use schema_run::said::Form;
+
+/// Reads the schemas of a file's columns. `is_beside` says that an input is standard input.
+fn columns_in(
+    rt: &HostRuntime,
+    matches: &ArgMatches<'_>,
+    file: &str,
+    options: CsvOptions,
+    is_beside: bool,
+) -> Result<TableSchema> {
+    let reader = open(rt, file, is_beside)?;
+    match read_schema(rt.alloc(), reader, options, null_in(matches)) {
+        Ok(schema) => Ok(schema),
+        Err(error) => Err(csv_trouble(&error, options).context(file)),
+    }
+}
+
+/// Reads the schemas of the paths of a file's documents. `is_beside` says that an input is standard
+/// input.
+fn paths_in(
+    rt: &HostRuntime,
+    matches: &ArgMatches<'_>,
+    file: &str,
+    is_beside: bool,
+) -> Result<DocumentSchema> {
+    let reader = open(rt, file, is_beside)?;
+    match read_document_schema(rt.alloc(), reader, matches.get_flag("skip-bad")) {
+        Ok(schema) => Ok(schema),
+        Err(error) => Err(schema_trouble(&error).context(file)),
+    }
+}
+
+/// Returns the names of two files as bytes.
+fn names_of<'a>(left: &'a str, right: &'a str) -> Files<'a> {
+    Files {
+        left: left.as_bytes(),
+        right: right.as_bytes(),
+    }
+}
+
+/// Returns the status for these counts.
+fn status_of(counts: SchemaCounts) -> u8 {
+    if counts.changed == 0 && counts.removed == 0 && counts.added == 0 {
+        0
+    } else {
+        1
+    }
+}
+
+/// Prints the differences between the schemas of two tables, and returns the status.
+fn print_columns(
+    rt: &HostRuntime,
+    form: Form,
+    files: Files<'_>,
+    before: &TableSchema,
+    after: &TableSchema,
+) -> Result<u8> {
+    let (before, after) = (before.columns.as_slice(), after.columns.as_slice());
+    let mut text = Vec::new(rt.alloc());
+    match form {
+        Form::Text => push_column_lines(&mut text, files, before, after)?,
+        Form::Json => push_column_objects(&mut text, before, after)?,
+    }
+    print_text(rt, &text, status_of(counts_of(before, after)))
+}
+
+/// Compares the columns of two files, and returns the status.
+fn compare_columns(
+    rt: &HostRuntime,
+    matches: &ArgMatches<'_>,
+    left: &str,
+    right: &str,
+    is_beside: bool,
+) -> Result<u8> {
+    refuse_of_documents(matches)?;
+    let options = csv_options(matches, left, right)?;
+    let before = columns_in(rt, matches, left, options, is_beside)?;
+    let after = columns_in(rt, matches, right, options, is_beside)?;
+    let files = names_of(left, right);
+    print_columns(rt, form_in(matches), files, &before, &after)
+}
+
+/// Prints the differences between the schemas of two files of documents, and returns the status.
+fn print_paths(
+    rt: &HostRuntime,
+    form: Form,
+    files: Files<'_>,
+    before: &DocumentSchema,
+    after: &DocumentSchema,
+) -> Result<u8> {
+    let mut text = Vec::new(rt.alloc());
+    match form {
+        Form::Text => push_document_lines(&mut text, files, before, after)?,
+        Form::Json => push_document_objects(&mut text, before, after)?,
+    }
+    print_text(rt, &text, status_of(counts_of(&before.paths, &after.paths)))
+}
+
+/// Compares the paths of two files of documents, and returns the status.
+fn compare_paths(
+    rt: &HostRuntime,
+    matches: &ArgMatches<'_>,
+    left: &str,
+    right: &str,
+    is_beside: bool,
+) -> Result<u8> {
+    refuse_of_tables(matches)?;
+    let before = paths_in(rt, matches, left, is_beside)?;
+    let after = paths_in(rt, matches, right, is_beside)?;
+    let files = names_of(left, right);
+    print_paths(rt, form_in(matches), files, &before, &after)
+}
+
+/// Prints the differences between the schemas of two files, and returns the status.
+pub(crate) fn compare_schemas(
+    rt: &HostRuntime,
+    matches: &ArgMatches<'_>,
+    left: &str,
+    right: &str,
+) -> Result<u8> {
+    refuse_others(matches)?;
+    if left == "-" && right == "-" {
+        return Err(trouble!("only one of the two files can be standard input"));
+    }
+    refuse_own_output(rt, &[left, right])?;
+    let is_beside = left == "-" || right == "-";
+    if hold_documents(matches, left, right)? {
+        return compare_paths(rt, matches, left, right, is_beside);
+    }
+    compare_columns(rt, matches, left, right, is_beside)
+}

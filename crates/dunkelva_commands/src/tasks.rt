@@ -1,0 +1,314 @@
+//! Comparisons of two inputs, and the forms of their reports.
+
+use crate::progress::{Cleared, Counted, Progress};
+use crate::trouble::{document_trouble, sorted_trouble, table_trouble};
+use diff_aligned::aligned::{Sheet, push_aligned};
+use diff_keys::outcome::Outcome;
+use diff_markdown::markdown::push_markdown;
+use diff_page::page::push_page;
+use diff_run::error::RunError;
+use diff_run::options::Options;
+use diff_run::run::{Input, run};
+use diff_sorted::error::SortedError;
+use diff_sorted::run::run_sorted;
+use document_run::error::DocumentError;
+use document_run::options::DocumentOptions;
+use document_run::run::run_documents;
+use dunkelva_messages::error::Result;
+use dunkelva_messages::files::{Source, open, total_of};
+use dunkelva_messages::hints::explained;
+use dunkelva_messages::trouble;
+use dunkelva_settings::words::Target;
+use std::alloc::Global;
+use std::io::{ErrorKind, Write};
+use std::{fs, io};
+
+/// The end of a comparison.
+#[derive(Clone, Copy)]
+enum Ending {
+    Same,
+    Different,
+    /// Nobody reads standard output any more.
+    Unread,
+}
+
+impl Ending {
+    /// Returns the status of the program.
+    fn status(self) -> u8 {
+        match self {
+            Ending::Same => 0,
+            Ending::Different => 1,
+            Ending::Unread => 2,
+        }
+    }
+}
+
+impl From<Outcome> for Ending {
+    fn from(outcome: Outcome) -> Ending {
+        match outcome {
+            Outcome::Same => Ending::Same,
+            Outcome::Different => Ending::Different,
+        }
+    }
+}
+
+/// The kind of the files, and the options of their comparison.
+#[derive(Clone, Copy)]
+pub(crate) enum Task<'a> {
+    /// Tables, as CSV.
+    Tables(&'a Options<'a>),
+    /// Tables that are sorted by key.
+    Sorted(&'a Options<'a>),
+    /// Documents of JSON, one a line.
+    Documents(&'a DocumentOptions<'a>),
+}
+
+/// Returns the input of this name and source, whose bytes are counted.
+fn counted<'a>(
+    name: &'a str,
+    source: Source,
+    progress: &'a Progress<'a>,
+) -> Input<'a, Counted<'a>> {
+    Input {
+        name: name.as_bytes(),
+        reader: Counted { source, progress },
+    }
+}
+
+/// Returns the end of a comparison whose report could not be written. If nobody reads the output,
+/// that is not an error, as with other programs.
+fn unwritten(cause: io::Error) -> Result<Ending> {
+    if cause.kind() == ErrorKind::BrokenPipe {
+        return Ok(Ending::Unread);
+    }
+    Err(trouble!("{cause}").context("standard output"))
+}
+
+/// Returns the end of a comparison of tables with this result.
+fn tables_ending(
+    rt: &HostRuntime,
+    came_to: Result<Outcome, RunError>,
+    names: (&str, &str),
+    options: &Options<'_>,
+) -> Result<Ending> {
+    match came_to {
+        Ok(outcome) => Ok(Ending::from(outcome)),
+        Err(RunError::Write { cause }) => unwritten(cause),
+        Err(error) => Err(table_trouble(rt, &error, names, options)),
+    }
+}
+
+/// Returns the end of a comparison of sorted tables with this result.
+fn sorted_ending(
+    rt: &HostRuntime,
+    came_to: Result<Outcome, SortedError>,
+    names: (&str, &str),
+    options: &Options<'_>,
+) -> Result<Ending> {
+    match came_to {
+        Ok(outcome) => Ok(Ending::from(outcome)),
+        Err(SortedError::Run { cause }) => tables_ending(rt, Err(cause), names, options),
+        Err(error) => Err(sorted_trouble(rt, &error, names, options)),
+    }
+}
+
+/// Returns the end of a comparison of documents with this result.
+fn documents_ending(
+    rt: &HostRuntime,
+    came_to: Result<Outcome, DocumentError>,
+    names: (&str, &str),
+    options: &DocumentOptions<'_>,
+) -> Result<Ending> {
+    match came_to {
+        Ok(outcome) => Ok(Ending::from(outcome)),
+        Err(DocumentError::Write { cause }) => unwritten(cause),
+        Err(error) => Err(document_trouble(rt, &error, names, options)),
+    }
+}
+
+/// Compares two inputs of these names, and writes the report to `out`.
+fn report_to<W: Write>(
+    rt: &HostRuntime,
+    left: Source,
+    right: Source,
+    names: (&str, &str),
+    progress: &Progress<'_>,
+    task: Task<'_>,
+    out: &mut W,
+) -> Result<Ending> {
+    let left = counted(names.0, left, progress);
+    let right = counted(names.1, right, progress);
+    match task {
+        Task::Tables(options) => {
+            let came_to = run(rt.alloc(), left, right, out, options);
+            tables_ending(rt, came_to, names, options)
+        }
+        Task::Sorted(options) => {
+            let came_to = run_sorted(rt.alloc(), left, right, out, options);
+            sorted_ending(rt, came_to, names, options)
+        }
+        Task::Documents(options) => {
+            let came_to = run_documents(rt.alloc(), left, right, out, options);
+            documents_ending(rt, came_to, names, options)
+        }
+    }
+}
+
+/// A report, and the end of its comparison.
+#[derive(Drop)]
+struct Made {
+    report: Vec<u8>,
+    ending: Ending,
+}
+
+/// Compares two inputs of these names, and returns the report.
+fn report_of(
+    rt: &HostRuntime,
+    left: Source,
+    right: Source,
+    names: (&str, &str),
+    progress: &Progress<'_>,
+    task: Task<'_>,
+) -> Result<Made> {
+    let mut report = Vec::new(rt.alloc());
+    let ending = report_to(rt, left, right, names, progress, task, &mut report)?;
+    Ok(Made { report, ending })
+}
+
+/// Compares two inputs of these names, and prints the report.
+fn print_report(
+    rt: &HostRuntime,
+    left: Source,
+    right: Source,
+    names: (&str, &str),
+    progress: &Progress<'_>,
+    task: Task<'_>,
+) -> Result<Ending> {
+    let mut out = Cleared {
+        writer: io::writer(rt),
+        progress,
+    };
+    report_to(rt, left, right, names, progress, task, &mut out)
+}
+
+/// Prints a text that is made of a report.
+fn print_text(
+    rt: &HostRuntime,
+    text: &[u8],
+    progress: &Progress<'_>,
+    ending: Ending,
+) -> Result<Ending> {
+    let mut out = Cleared {
+        writer: io::writer(rt),
+        progress,
+    };
+    match out.write_all(text) {
+        Ok(()) => Ok(ending),
+        Err(cause) => unwritten(cause),
+    }
+}
+
+/// Writes a page to a file.
+fn write_page(rt: &HostRuntime, page: &[u8], path: &str, ending: Ending) -> Result<Ending> {
+    match fs::write(rt, path, page) {
+        Ok(()) => Ok(ending),
+        Err(error) => Err(trouble!("{error}").context(path)),
+    }
+}
+
+/// Appends a report of two files of these names in the form that the target takes.
+fn push_form(
+    alloc: Global,
+    text: &mut Vec<u8>,
+    names: (&str, &str),
+    target: Target<'_>,
+    report: &[u8],
+) -> Result<()> {
+    match target {
+        Target::Output => text.extend_from_slice(report)?,
+        Target::Markdown => push_markdown(alloc, text, names.0, names.1, report)?,
+        Target::Aligned(width, colored) => {
+            let sheet = Sheet {
+                width,
+                colored,
+                left: names.0,
+                right: names.1,
+            };
+            push_aligned(alloc, text, &sheet, report)?;
+        }
+        Target::Page(_) => push_page(text, names.0.as_bytes(), names.1.as_bytes(), report)?,
+    }
+    Ok(())
+}
+
+/// Shows a report of two files of these names in the form that the target takes.
+fn show(
+    rt: &HostRuntime,
+    made: &Made,
+    names: (&str, &str),
+    progress: &Progress<'_>,
+    target: Target<'_>,
+) -> Result<Ending> {
+    let mut text = Vec::new(rt.alloc());
+    push_form(rt.alloc(), &mut text, names, target, &made.report)?;
+    match target {
+        Target::Page(path) => write_page(rt, &text, path, made.ending),
+        _ => print_text(rt, &text, progress, made.ending),
+    }
+}
+
+/// Compares two inputs of these names, and shows the report.
+fn compared(
+    rt: &HostRuntime,
+    left: Source,
+    right: Source,
+    names: (&str, &str),
+    progress: &Progress<'_>,
+    task: Task<'_>,
+    target: Target<'_>,
+) -> Result<Ending> {
+    if let Target::Output = target {
+        return print_report(rt, left, right, names, progress, task);
+    }
+    let made = report_of(rt, left, right, names, progress, task)?;
+    show(rt, &made, names, progress, target)
+}
+
+/// Compares two inputs of these names, and returns the status.
+fn compare(
+    rt: &HostRuntime,
+    left: Source,
+    right: Source,
+    names: (&str, &str),
+    task: Task<'_>,
+    target: Target<'_>,
+) -> Result<u8> {
+    let progress = Progress::new(rt, total_of(&left, &right));
+    let ending = compared(rt, left, right, names, &progress, task, target);
+    progress.erase();
+    match ending {
+        Ok(ending) => Ok(ending.status()),
+        Err(error) => Err(error),
+    }
+}
+
+/// Compares the two inputs that are named. One of them may be standard input.
+pub(crate) fn compare_named(
+    rt: &HostRuntime,
+    left: &str,
+    right: &str,
+    task: Task<'_>,
+    target: Target<'_>,
+) -> Result<u8> {
+    if left == "-" && right == "-" {
+        return Err(trouble!("only one of the two files can be standard input"));
+    }
+    let has_standard = left == "-" || right == "-";
+    let names = (left, right);
+    let left = open(rt, left, has_standard)?;
+    let right = open(rt, right, has_standard)?;
+    match compare(rt, left, right, names, task, target) {
+        Ok(status) => Ok(status),
+        Err(error) => Err(explained(rt, error, &[names.0, names.1])),
+    }
+}

@@ -1,0 +1,373 @@
+//! Errors for files that can't be compared.
+
+use crate::columns::{column_name, columns_hint};
+use crate::document_key::document_key;
+use crate::key_columns::{row_key, sort_command};
+use diff_columns::error::{ColumnError, Side};
+use diff_csv::error::CsvError;
+use diff_csv::options::CsvOptions;
+use diff_run::error::{ChoiceError, NameList, RunError};
+use diff_run::options::Options;
+use diff_sorted::error::SortedError;
+use diff_tolerances::cells::Tolerance;
+use document_rows::error::{LineFault, ReadError};
+use document_run::error::DocumentError;
+use document_run::options::DocumentOptions;
+use dunkelva_messages::error::{About, Error, Lengths};
+use dunkelva_messages::files::open_again;
+use dunkelva_messages::hints::{begins_object, first_line_hint};
+use dunkelva_messages::members::members_hint;
+use dunkelva_messages::names::quoted;
+use dunkelva_messages::trouble;
+use dunkelva_settings::rules::{ABSOLUTE, RELATIVE};
+use json_tolerances::closeness::Margin;
+use schema_paths::error::SchemaError;
+
+/// Returns the name of a side's file.
+fn file_of<'a>(names: (&'a str, &'a str), side: Side) -> &'a str {
+    match side {
+        Side::Left => names.0,
+        Side::Right => names.1,
+    }
+}
+
+/// Returns the error for a record that has another number of fields than the first one.
+fn other_length(line: u64, found: u64, expected: u64, csv: CsvOptions) -> Error {
+    let first = if csv.has_header {
+        "header"
+    } else {
+        "first record"
+    };
+    let fields = if found == 1 { "field" } else { "fields" };
+    trouble!("line {line} has {found} {fields}, the {first} has {expected}")
+}
+
+/// Returns the error for a CSV file that can't be read.
+pub(crate) fn csv_trouble(cause: &CsvError, csv: CsvOptions) -> Error {
+    match cause {
+        CsvError::Length {
+            line,
+            expected,
+            found,
+        } => other_length(*line, *found, *expected, csv).about(About::Lengths(Lengths {
+            expected: *expected,
+            found: *found,
+            delimiter: csv.delimiter,
+        })),
+        CsvError::OpenQuote { .. } => trouble!("{cause}").about(About::Records),
+        other => trouble!("{other}"),
+    }
+}
+
+/// Returns a name as a text.
+fn text_of(name: &[u8]) -> &str {
+    str::from_utf8(name).unwrap_or("-")
+}
+
+/// Returns whether a file is an ordinary one without any byte.
+fn is_empty(rt: &HostRuntime, file: &str) -> bool {
+    open_again(rt, file).is_some_and(|source| source.size() == Some(0))
+}
+
+/// Returns the error for a key that is not the name of a column of this file.
+fn no_key(rt: &HostRuntime, file: &str, key: usize, options: &Options<'_>) -> Error {
+    let Some(name) = options.choice.keys.get(key) else {
+        return trouble!("a key column is missing");
+    };
+    let name = text_of(name);
+    let error = trouble!("no column is named {}", quoted(name));
+    if file == "-" {
+        return error.hint("for JSON lines give --input ndjson");
+    }
+    if begins_object(rt, file) {
+        return error.about(About::Records);
+    }
+    if is_empty(rt, file) {
+        return error.hint("the file is empty");
+    }
+    if let Some(hint) = first_line_hint(rt, file) {
+        return error.hint(hint);
+    }
+    match columns_hint(rt, file, options.csv, name, false) {
+        Some(hint) => error.hint(hint),
+        None => error,
+    }
+}
+
+/// Returns the option that gives a tolerance.
+fn option_of(tolerance: &Tolerance<'_>) -> &'static str {
+    match tolerance.margin {
+        Margin::Absolute(_) => ABSOLUTE,
+        Margin::Relative(_) => RELATIVE,
+    }
+}
+
+/// Returns the option that gives a list of names, and the names in the list.
+fn names_in<'a>(list: NameList, options: &Options<'a>) -> (&'static str, &'a [&'a [u8]]) {
+    match list {
+        NameList::Only => ("only", options.choice.only.unwrap_or(&[])),
+        NameList::Ignored => ("ignore", options.choice.ignored),
+        NameList::Texts => ("text", options.numbers.unwrap_or(&[])),
+        NameList::Tolerances => (ABSOLUTE, &[]),
+    }
+}
+
+/// Returns the error for a name that is not the name of a column of either file. The columns of
+/// `file` are listed, if it can be read once more.
+fn unknown_column(
+    rt: &HostRuntime,
+    file: &str,
+    option: &str,
+    name: &str,
+    csv: CsvOptions,
+) -> Error {
+    let error = trouble!(
+        "--{option}: neither file has a column named {}",
+        quoted(name)
+    );
+    match columns_hint(rt, file, csv, name, true) {
+        Some(hint) => error.hint(hint),
+        None => error,
+    }
+}
+
+/// Returns the error for a tolerance for a column that neither file has.
+fn no_tolerance_column(rt: &HostRuntime, file: &str, place: usize, options: &Options<'_>) -> Error {
+    let tolerances = options.tolerances.unwrap_or(&[]);
+    match tolerances.get(place) {
+        Some(tolerance) => {
+            let name = text_of(tolerance.column);
+            unknown_column(rt, file, option_of(tolerance), name, options.csv)
+        }
+        None => trouble!("--{ABSOLUTE}: neither file has a column of this name"),
+    }
+}
+
+/// Returns the error for a name in a list that is not the name of a column of either file.
+fn no_column(
+    rt: &HostRuntime,
+    file: &str,
+    list: NameList,
+    place: usize,
+    options: &Options<'_>,
+) -> Error {
+    if let NameList::Tolerances = list {
+        return no_tolerance_column(rt, file, place, options);
+    }
+    let (option, names) = names_in(list, options);
+    match names.get(place) {
+        Some(name) => unknown_column(rt, file, option, text_of(name), options.csv),
+        None => trouble!("--{option}: neither file has a column of this name"),
+    }
+}
+
+/// Returns an error, with a hint after it if there is one.
+fn with_hint(error: Error, hint: Option<String>) -> Error {
+    match hint {
+        Some(hint) => error.hint(hint),
+        None => error,
+    }
+}
+
+/// Returns the error for two rows or documents that have the same key, and the key if it is known.
+fn one_key(first: u64, again: u64, key: Option<String>) -> Error {
+    with_hint(trouble!("lines {first} and {again} have the same key"), key)
+}
+
+/// Returns the error for two rows of a file that have the same key.
+fn rows_of_one_key(
+    rt: &HostRuntime,
+    file: &str,
+    first: u64,
+    again: u64,
+    options: &Options<'_>,
+) -> Error {
+    one_key(first, again, row_key(rt, file, first, options)).context(file)
+}
+
+/// Returns the error for a number in the column of this name, whose exponent is too wide.
+fn wide_exponent(line: u64, name: &[u8]) -> Error {
+    trouble!(
+        "line {line}: a number in column {:?} has an exponent of more than 30 digits: see --text",
+        text_of(name)
+    )
+}
+
+/// Returns the error for a column of a file whose name an earlier one has.
+fn name_twice(rt: &HostRuntime, file: &str, column: usize, options: &Options<'_>) -> Error {
+    let number = column.saturating_add(1);
+    let error = trouble!("column {number} has the name of an earlier column");
+    match column_name(rt, file, options.csv, column) {
+        Some(_) if begins_object(rt, file) => error.about(About::Records),
+        Some(name) => error.hint(quoted(&name)),
+        None => error,
+    }
+}
+
+/// Returns the error for columns that can't be matched, with the file as context.
+fn columns_trouble(
+    rt: &HostRuntime,
+    cause: ColumnError,
+    names: (&str, &str),
+    options: &Options<'_>,
+) -> Error {
+    match cause {
+        ColumnError::NameTwice { side, column } => {
+            let file = file_of(names, side);
+            name_twice(rt, file, column, options).context(file)
+        }
+        ColumnError::NoKey { side, key } => {
+            let file = file_of(names, side);
+            no_key(rt, file, key, options).context(file)
+        }
+        ColumnError::Memory => trouble!("out of memory"),
+    }
+}
+
+/// Returns the error that is printed for one of a comparison of tables, with the file as context.
+pub(crate) fn table_trouble(
+    rt: &HostRuntime,
+    error: &RunError,
+    names: (&str, &str),
+    options: &Options<'_>,
+) -> Error {
+    match error {
+        RunError::Csv { side, cause } => {
+            csv_trouble(cause, options.csv).context(file_of(names, *side))
+        }
+        RunError::KeyTwice { side, first, again } => {
+            rows_of_one_key(rt, file_of(names, *side), *first, *again, options)
+        }
+        RunError::WideExponent { side, line, name } => {
+            wide_exponent(*line, name).context(file_of(names, *side))
+        }
+        RunError::Columns { cause } => columns_trouble(rt, *cause, names, options),
+        RunError::Choice {
+            cause: ChoiceError::NoColumn { list, name },
+        } => no_column(rt, names.0, *list, *name, options),
+        other => trouble!("{other}"),
+    }
+}
+
+/// Returns the error for a row with a lesser key than the row before it.
+fn lesser_key(rt: &HostRuntime, file: &str, line: u64, options: &Options<'_>) -> Error {
+    let error = trouble!("the row at line {line} has a lesser key than the row before it");
+    let error = match sort_command(rt, file, options) {
+        Some(command) => error.hint(format_args!(
+            "sort by the bytes of the key, as {command} does where no cell is in quotes"
+        )),
+        None => error.hint("sort by the bytes of the key, as LC_ALL=C sort does"),
+    };
+    error.context(file)
+}
+
+/// Returns the error that is printed for one of a comparison of sorted tables, with the file as
+/// context.
+pub(crate) fn sorted_trouble(
+    rt: &HostRuntime,
+    error: &SortedError,
+    names: (&str, &str),
+    options: &Options<'_>,
+) -> Error {
+    match error {
+        SortedError::Falls { side, line } => {
+            lesser_key(rt, file_of(names, *side), *line, options)
+        }
+        SortedError::KeyTwice { side, first, again } => {
+            rows_of_one_key(rt, file_of(names, *side), *first, *again, options)
+        }
+        other => trouble!("{other}"),
+    }
+}
+
+/// Returns the reason why a line is not a document. `keys` are the paths of the keys.
+fn fault_text(fault: LineFault, keys: &[&[u8]]) -> Error {
+    match fault {
+        LineFault::NoPart { key } => match keys.get(key) {
+            Some(name) => trouble!("the key {} is missing", quoted(text_of(name))),
+            None => trouble!("a key is missing"),
+        },
+        LineFault::Invalid => trouble!("not valid JSON"),
+        LineFault::NoObject => trouble!("not a JSON object"),
+        other => trouble!("{other}"),
+    }
+}
+
+/// Returns the error for a line that is not a document.
+fn line_trouble(line: u64, column: Option<u64>, fault: LineFault, keys: &[&[u8]]) -> Error {
+    let text = fault_text(fault, keys);
+    let Some(column) = column else {
+        return trouble!("line {line}: {text}");
+    };
+    let error = trouble!("line {line}, column {column}: {text}");
+    match fault {
+        LineFault::Invalid | LineFault::NoObject => error.about(About::Line { line, column }),
+        _ => error,
+    }
+}
+
+/// Returns the error for an input of documents that can't be read. `keys` are the paths of the
+/// keys.
+fn read_trouble(cause: &ReadError, keys: &[&[u8]]) -> Error {
+    match cause {
+        ReadError::Line {
+            line,
+            column,
+            fault,
+        } => line_trouble(*line, *column, *fault, keys),
+        other => trouble!("{other}"),
+    }
+}
+
+/// The error where --skip-bad would leave no line of a file.
+const ALL_SKIPPED: &str = "--skip-bad would skip every line";
+
+/// Returns the error for an input of documents whose schema can't be read.
+pub(crate) fn schema_trouble(error: &SchemaError) -> Error {
+    match error {
+        SchemaError::Read { cause } => read_trouble(cause, &[]),
+        SchemaError::AllSkipped => trouble!("{ALL_SKIPPED}"),
+        SchemaError::Memory => trouble!("out of memory"),
+    }
+}
+
+/// Returns a hint at the key that a line of a file lacks, if that is why it is not read.
+fn key_hint(rt: &HostRuntime, file: &str, cause: &ReadError, keys: &[&[u8]]) -> Option<String> {
+    match cause {
+        ReadError::Line {
+            line,
+            fault: LineFault::NoPart { key },
+            ..
+        } => members_hint(rt, file, *line, text_of(keys.get(*key)?)),
+        _ => None,
+    }
+}
+
+/// Returns the error for a file of documents that can't be read. `keys` are the paths of the keys.
+fn unread(rt: &HostRuntime, file: &str, cause: &ReadError, keys: &[&[u8]]) -> Error {
+    with_hint(read_trouble(cause, keys), key_hint(rt, file, cause, keys)).context(file)
+}
+
+/// Returns the error that is printed for one of a comparison of documents, with the file as
+/// context.
+pub(crate) fn document_trouble(
+    rt: &HostRuntime,
+    error: &DocumentError,
+    names: (&str, &str),
+    options: &DocumentOptions<'_>,
+) -> Error {
+    match error {
+        DocumentError::Read { side, cause } => {
+            unread(rt, file_of(names, *side), cause, options.names)
+        }
+        DocumentError::KeyTwice { side, first, again } => {
+            let file = file_of(names, *side);
+            let key = document_key(rt, file, *first, options.keys);
+            one_key(*first, *again, key).context(file)
+        }
+        DocumentError::AllSkipped { side } => {
+            trouble!("{ALL_SKIPPED}").context(file_of(names, *side))
+        }
+        other => trouble!("{other}"),
+    }
+}

@@ -1,0 +1,119 @@
+//! The names in a document that lacks a key, for hints.
+
+use crate::error::Result;
+use crate::lines::line_bytes;
+use crate::names::{MOST_NAMES, push_more, push_name, quoted};
+use crate::near::{are_near, differ_by_case};
+use json::{Scratch, Value};
+use std::alloc::Global;
+
+/// Returns the names of the first members of a document, and how many more there are.
+fn list_of(alloc: Global, members: &[(&str, Value<'_>)]) -> Result<String> {
+    let mut list = String::new(alloc);
+    for (i, (name, _)) in members.iter().take(MOST_NAMES).enumerate() {
+        push_name(&mut list, alloc, name.as_bytes(), i == 0)?;
+    }
+    push_more(&mut list, alloc, members.len().saturating_sub(MOST_NAMES))?;
+    Ok(list)
+}
+
+/// Returns how far a name is from another one, if they are nearly the same.
+fn distance(one: &str, other: &str) -> Option<u8> {
+    if one == other {
+        Some(0)
+    } else if differ_by_case(one.as_bytes(), other.as_bytes()) {
+        Some(1)
+    } else if are_near(one.as_bytes(), other.as_bytes()) {
+        Some(2)
+    } else {
+        None
+    }
+}
+
+/// Returns the place of the first member whose name is the nearest to this one, if one is near.
+fn nearest(members: &[(&str, Value<'_>)], wanted: &str) -> Option<usize> {
+    let mut least = u8::MAX;
+    let mut found = None;
+    for (i, (name, _)) in members.iter().enumerate() {
+        if let Some(apart) = distance(name, wanted) {
+            if apart < least {
+                least = apart;
+                found = Some(i);
+            }
+        }
+    }
+    found
+}
+
+/// Returns whether a name stands in a path without quotes.
+fn is_plain(name: &str) -> bool {
+    !name.is_empty()
+        && name
+            .chars()
+            .all(|c| c.is_ascii_alphanumeric() || c == '_' || c == '-')
+}
+
+/// Returns the member of a value whose name is the nearest to this one, if one is near.
+fn member_near<'v, 'a>(value: &'v Value<'a>, name: &str) -> Option<&'v (&'a str, Value<'a>)> {
+    let Value::Object(members) = value else {
+        return None;
+    };
+    members.get(nearest(members, name)?)
+}
+
+/// Appends the path of a part of a value whose names are nearly these. Returns `None` if there is
+/// none, or a name needs quotes.
+fn push_near(names: &[&str], value: &Value<'_>, near: &mut String) -> Option<()> {
+    let Some((name, rest)) = names.split_first() else {
+        return Some(());
+    };
+    let (found, inner) = member_near(value, name)?;
+    if !is_plain(name) || !is_plain(found) {
+        return None;
+    }
+    near.push_str(if near.is_empty() { "" } else { "." }).ok()?;
+    near.push_str(found).ok()?;
+    push_near(rest, inner, near)
+}
+
+/// Returns the path of a part of a document that is nearly this path, if there is one. Paths with
+/// quotes or places are left out.
+fn path_near(alloc: Global, document: &Value<'_>, path: &str) -> Option<String> {
+    let mut names = Vec::new(alloc);
+    for name in path.strip_prefix('.').unwrap_or(path).split('.') {
+        names.push(name).ok()?;
+    }
+    let mut near = String::new(alloc);
+    push_near(&names, document, &mut near)?;
+    Some(near)
+}
+
+/// Returns what is known of a path that leads nowhere in a document: a question, if another one is
+/// near, and the names of its members.
+fn hint_in(alloc: Global, document: &Value<'_>, path: &str) -> Option<String> {
+    let Value::Object(members) = document else {
+        return None;
+    };
+    if members.is_empty() {
+        return None;
+    }
+    let list = list_of(alloc, members).ok()?;
+    match path_near(alloc, document, path) {
+        Some(near) => {
+            let near = quoted(&near);
+            format!(in alloc; "did you mean {near}? The document has {list}").ok()
+        }
+        None => format!(in alloc; "the document has {list}").ok(),
+    }
+}
+
+/// Returns a hint at a path that leads nowhere in the document in a line of an ordinary file.
+pub fn members_hint(rt: &HostRuntime, file: &str, line: u64, path: &str) -> Option<String> {
+    let bytes = line_bytes(rt, file, line)?;
+    let text = str::from_utf8(&bytes).ok()?;
+    let mut scratch = Scratch::new(rt.alloc());
+    match &Value::parse(rt.alloc(), text, &mut scratch) {
+        Ok(document) => hint_in(rt.alloc(), document, path),
+        Err(_) => None,
+    }
+}

@@ -1,0 +1,300 @@
+//! The options of `dunkelva diff`, in the order of the help text.
+
+/// The kind of value that stands after an option.
+#[derive(Clone, Copy)]
+pub enum Takes {
+    /// Nothing.
+    Nothing,
+    /// A text.
+    Text,
+    /// A number.
+    Number,
+    /// One of these words.
+    Word(&'static [&'static str]),
+    /// A text, and the option may be given again.
+    Texts,
+    /// A list of texts with commas between them, and the option may be given again.
+    List,
+}
+
+/// The files that an option goes with.
+#[derive(Clone, Copy, PartialEq, Eq)]
+pub enum GoesWith {
+    /// Tables and documents.
+    Both,
+    /// Tables alone.
+    Tables,
+    /// Documents alone.
+    Documents,
+}
+
+/// An option of the command line.
+#[derive(Clone, Copy)]
+pub struct CliOption {
+    /// Its name, written after two hyphens.
+    pub id: &'static str,
+    /// The letter that may be written after one hyphen in place of the name.
+    pub short: Option<char>,
+    /// The kind of value that follows it.
+    pub takes: Takes,
+    /// The name of its value in the help text.
+    pub value: &'static str,
+    /// The value that it has where it is not given.
+    pub default: Option<&'static str>,
+    /// The option that is given with it.
+    pub needs: Option<&'static str>,
+    /// The options that may not be given with it.
+    pub excludes: &'static [&'static str],
+    /// The options that are refused beside it, and left out where a file sets them.
+    pub refuses: &'static [&'static str],
+    /// The files that it goes with.
+    pub goes_with: GoesWith,
+    /// Its line in the help text.
+    pub help: &'static str,
+}
+
+/// An option that is given or not.
+const SWITCH: CliOption = CliOption {
+    id: "",
+    short: None,
+    takes: Takes::Nothing,
+    value: "",
+    default: None,
+    needs: None,
+    excludes: &[],
+    refuses: &[],
+    goes_with: GoesWith::Both,
+    help: "",
+};
+
+/// The options that are of rows, and of their differences.
+const OF_ROWS: [&str; 19] = [
+    "key",
+    "only",
+    "ignore",
+    "unique",
+    "common",
+    "numbers",
+    "text",
+    "missing-is-null",
+    "tolerance",
+    "relative-tolerance",
+    "no-key-is-null",
+    "partition",
+    "sorted",
+    "limit",
+    "summary",
+    "color",
+    "width",
+    "markdown",
+    "html",
+];
+
+/// The options of the command.
+static OPTIONS: [CliOption; 27] = [
+    CliOption {
+        id: "key",
+        short: Some('k'),
+        takes: Takes::List,
+        value: "COLUMNS",
+        help: "The columns or paths that name a row; without them rows are compared by position",
+        ..SWITCH
+    },
+    CliOption {
+        id: "only",
+        takes: Takes::List,
+        value: "COLUMNS",
+        help: "Compare these columns or paths alone, and the key",
+        ..SWITCH
+    },
+    CliOption {
+        id: "ignore",
+        takes: Takes::List,
+        value: "COLUMNS",
+        help: "Compare all columns or paths but these",
+        ..SWITCH
+    },
+    CliOption {
+        id: "unique",
+        needs: Some("key"),
+        help: "A key that comes twice in a file is an error",
+        ..SWITCH
+    },
+    CliOption {
+        id: "common",
+        goes_with: GoesWith::Tables,
+        help: "Leave out columns that one file has alone",
+        ..SWITCH
+    },
+    CliOption {
+        id: "numbers",
+        goes_with: GoesWith::Tables,
+        help: "Compare numbers by what they are worth: 12, 12.00 and 1.2e1 are the same",
+        ..SWITCH
+    },
+    CliOption {
+        id: "text",
+        takes: Takes::List,
+        value: "COLUMNS",
+        needs: Some("numbers"),
+        goes_with: GoesWith::Tables,
+        help: "With --numbers, compare these columns as text",
+        ..SWITCH
+    },
+    CliOption {
+        id: "missing-is-null",
+        goes_with: GoesWith::Documents,
+        help: "In JSON a part that is missing is the same as null",
+        ..SWITCH
+    },
+    CliOption {
+        id: "tolerance",
+        takes: Takes::Texts,
+        value: "COLUMN=BOUND",
+        help: "Numbers in COLUMN, or at a path, may lie up to BOUND apart",
+        ..SWITCH
+    },
+    CliOption {
+        id: "relative-tolerance",
+        takes: Takes::Texts,
+        value: "COLUMN=BOUND",
+        help: "Numbers in COLUMN, or at a path, may lie up to BOUND times the larger one apart",
+        ..SWITCH
+    },
+    CliOption {
+        id: "input",
+        takes: Takes::Word(&["csv", "ndjson"]),
+        value: "KIND",
+        help: "The format of both files; without it their names tell it",
+        ..SWITCH
+    },
+    CliOption {
+        id: "null",
+        takes: Takes::Text,
+        value: "WORD",
+        goes_with: GoesWith::Tables,
+        help: "A field that is WORD is null; diff still compares its text",
+        ..SWITCH
+    },
+    CliOption {
+        id: "delimiter",
+        short: Some('d'),
+        takes: Takes::Text,
+        value: "BYTE",
+        goes_with: GoesWith::Tables,
+        help: "The byte between fields, \\t for a tab; without it a comma, or a tab in .tsv files",
+        ..SWITCH
+    },
+    CliOption {
+        id: "no-header",
+        goes_with: GoesWith::Tables,
+        help: "The first record is a row; columns are named 1, 2, 3 ..",
+        ..SWITCH
+    },
+    CliOption {
+        id: "no-key-is-null",
+        goes_with: GoesWith::Documents,
+        help: "A document without a part at a key path has the key null there",
+        ..SWITCH
+    },
+    CliOption {
+        id: "skip-bad",
+        goes_with: GoesWith::Documents,
+        help: "Skip lines that are no documents, and say how many there are",
+        ..SWITCH
+    },
+    CliOption {
+        id: "partition",
+        takes: Takes::Text,
+        value: "I/N",
+        needs: Some("key"),
+        help: "Compare part I of N of the rows or documents, by key; all N parts are the whole",
+        ..SWITCH
+    },
+    CliOption {
+        id: "sorted",
+        needs: Some("key"),
+        goes_with: GoesWith::Tables,
+        help: "Both files are sorted by key, byte by byte: keep a few rows of each in memory",
+        ..SWITCH
+    },
+    CliOption {
+        id: "limit",
+        takes: Takes::Number,
+        value: "N",
+        default: Some("20"),
+        help: "Print at most N differences, in JSON too; 0 prints all",
+        ..SWITCH
+    },
+    CliOption {
+        id: "summary",
+        help: "Print the counts alone, and no differences",
+        ..SWITCH
+    },
+    CliOption {
+        id: "schema-only",
+        refuses: &OF_ROWS,
+        help: "Compare the columns and their types, or the paths in JSON, and no rows",
+        ..SWITCH
+    },
+    CliOption {
+        id: "format",
+        takes: Takes::Word(&["text", "json"]),
+        value: "FORM",
+        default: Some("text"),
+        help: "Print lines to read, or a JSON object in each line",
+        ..SWITCH
+    },
+    CliOption {
+        id: "color",
+        takes: Takes::Word(&["auto", "always", "never"]),
+        value: "WHEN",
+        default: Some("auto"),
+        help: "Print in colours; auto does on a terminal, unless NO_COLOR is set",
+        ..SWITCH
+    },
+    CliOption {
+        id: "width",
+        takes: Takes::Number,
+        value: "N",
+        excludes: &["format"],
+        help: "Print aligned columns, no wider than N columns of the terminal; 40 or more",
+        ..SWITCH
+    },
+    CliOption {
+        id: "markdown",
+        excludes: &["format", "width"],
+        help: "Print the report as Markdown, for a pull request",
+        ..SWITCH
+    },
+    CliOption {
+        id: "html",
+        takes: Takes::Text,
+        value: "FILE",
+        excludes: &["format", "width", "markdown"],
+        help: "Write a page to look at into FILE, of up to 10000 differences, and print nothing",
+        ..SWITCH
+    },
+    CliOption {
+        id: "config",
+        takes: Takes::Text,
+        value: "FILE",
+        help: "Take options from FILE, which is TOML; those of the command line win",
+        ..SWITCH
+    },
+];
+
+/// Returns the options.
+pub fn options() -> &'static [CliOption] {
+    &OPTIONS
+}
+
+/// Returns the options that are refused beside this one.
+pub fn refused_by(id: &str) -> &'static [&'static str] {
+    for option in options() {
+        if option.id == id {
+            return option.refuses;
+        }
+    }
+    &[]
+}

@@ -1,0 +1,52 @@
+//! The command line of `dunkelva schema`.
+
+use crate::command::with_option;
+use crate::options::options;
+use clap::{Arg, Command};
+use std::alloc::{AllocError, Global};
+
+/// The text after the options in `dunkelva schema --help`.
+const NOTES: &str = "\
+Each column of a CSV file has the narrowest of the types empty, truth value,
+whole number, number and text that all its values are of. A field that is empty
+is missing, unless --null says that it is null; the others are its values.
+
+Files whose names end in .ndjson or .jsonl have a JSON object in each line; files
+named .json need --input. Each path in them, such as order.id or items[].price,
+has the number of its values of each kind, and of the documents without it;
+distinct, least and greatest are of the numbers. --null, --delimiter and
+--no-header are for CSV alone, and --skip-bad is for JSON alone.
+
+The status is 0, or 2 where the file can't be read.";
+
+/// The options of `dunkelva diff` that the command has too.
+const SHARED: [&str; 6] = [
+    "null",
+    "delimiter",
+    "no-header",
+    "skip-bad",
+    "input",
+    "format",
+];
+
+/// Returns the argument that names the file.
+fn file_arg<'a>(alloc: Global) -> Arg<'a> {
+    Arg::new(alloc, "file")
+        .value_name("FILE")
+        .help("The file, or - for standard input")
+        .required(true)
+}
+
+/// Returns the command that prints the schema of a file.
+pub(crate) fn schema_command<'a>(alloc: Global) -> Result<Command<'a>, AllocError> {
+    let mut command = Command::new(alloc, "schema")
+        .about("Says what is in a CSV or NDJSON file")
+        .after_help(NOTES)
+        .arg(file_arg(alloc))?;
+    for option in options() {
+        if SHARED.contains(&option.id) {
+            command = with_option(alloc, command, *option)?;
+        }
+    }
+    Ok(command)
+}

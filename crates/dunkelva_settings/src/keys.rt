@@ -1,0 +1,71 @@
+//! The keys of documents that the words of the command line give.
+
+ghost use Rattle.std.specs.Prelude.{◌≡◌, length};
+
+use crate::rules::no_path;
+use clap::ArgMatches;
+use dunkelva_messages::error::{Error, Result};
+use dunkelva_messages::names::quoted;
+use dunkelva_messages::trouble;
+use dunkelva_options::lists::split_lists;
+use json_paths::error::PathError;
+use json_paths::parse::parse_path;
+use json_paths::path::Path;
+use std::alloc::Global;
+
+/// Paths to the parts of a document that name it, and their names in a report.
+#[derive(Drop)]
+pub struct Keys<'a> {
+    /// The paths.
+    pub paths: Vec<Path>,
+    /// The texts that write them.
+    pub names: Vec<&'a [u8]>,
+    ghost paired: { length names.items ≡ length paths.items },
+}
+
+/// Refuses a key that is given twice.
+pub(crate) fn refuse_repeated(keys: &[&[u8]]) -> Result<()> {
+    for i in 0..keys.len() {
+        if keys[..i].contains(&keys[i]) {
+            let name = str::from_utf8(keys[i]).unwrap_or("-");
+            return Err(trouble!("--key has {} twice", quoted(name)));
+        }
+    }
+    Ok(())
+}
+
+/// Returns the error for a word that is not the path of a key.
+fn no_key(error: PathError, word: &str) -> Error {
+    let is_list = matches!(error, PathError::Invalid) && word.contains("[]");
+    let error = no_path(error, "key", "items[0].sku", word);
+    if is_list {
+        return error.hint("a key path names one part, so no []");
+    }
+    error
+}
+
+/// Returns the path that a word writes.
+fn path_of(alloc: Global, word: &str) -> Result<Path> {
+    match parse_path(alloc, word) {
+        Ok(path) => Ok(path),
+        Err(error) => Err(no_key(error, word)),
+    }
+}
+
+/// Returns the keys that these words write. Fails where one comes twice.
+fn keys_in<'a>(alloc: Global, words: &[&'a str]) -> Result<Keys<'a>> {
+    let mut paths = Vec::new(alloc);
+    let mut names = Vec::new(alloc);
+    for word in words {
+        paths.push(path_of(alloc, word)?)?;
+        names.push(word.as_bytes())?;
+    }
+    refuse_repeated(&names)?;
+    Ok(Keys { paths, names })
+}
+
+/// Returns the keys that the words give. Fails where one is given twice.
+pub fn keys_of<'a>(alloc: Global, matches: &ArgMatches<'a>) -> Result<Keys<'a>> {
+    let words = split_lists(alloc, matches.get_strs("key").unwrap_or(&[]))?;
+    keys_in(alloc, &words)
+}

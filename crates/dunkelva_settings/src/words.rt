@@ -1,0 +1,235 @@
+//! The settings that the words of the command line give.
+
+use crate::keys::refuse_repeated;
+use crate::kinds::usual_delimiter;
+use clap::ArgMatches;
+use clap::parser::ValueSource;
+use diff_csv::options::{CsvOptions, is_delimiter};
+use diff_words::formats::Format;
+use dunkelva_messages::error::Result;
+use dunkelva_messages::names::quoted;
+use dunkelva_messages::trouble;
+use dunkelva_options::lists::split_lists;
+use std::alloc::{AllocError, Global};
+use std::env;
+use std::env::VarError;
+use std::io::IsTerminal;
+
+/// The names of columns that the words give, each as its bytes.
+#[derive(Drop)]
+pub struct Names<'a> {
+    /// The columns that are keys.
+    pub keys: Vec<&'a [u8]>,
+    /// The columns that are compared, if some are named.
+    pub only: Vec<&'a [u8]>,
+    /// The columns that are not compared.
+    pub ignored: Vec<&'a [u8]>,
+    /// The columns that are compared as texts.
+    pub texts: Vec<&'a [u8]>,
+}
+
+/// Returns a name without the quotes around it, if there are some.
+pub(crate) fn unquoted(name: &str) -> &str {
+    match name.strip_prefix('"') {
+        Some(rest) => rest.strip_suffix('"').unwrap_or(name),
+        None => name,
+    }
+}
+
+/// Appends the names in a list in which some stand in quotes. A comma in quotes is part of a name.
+fn push_quoted<'a>(
+    names: &mut Vec<&'a [u8]>,
+    alloc: Global,
+    list: &'a str,
+) -> Result<(), AllocError> {
+    for name in &split_lists(alloc, &[list])? {
+        names.push(unquoted(name).as_bytes())?;
+    }
+    Ok(())
+}
+
+/// Appends the names in a list with commas between them.
+fn push_list<'a>(
+    names: &mut Vec<&'a [u8]>,
+    alloc: Global,
+    list: &'a str,
+) -> Result<(), AllocError> {
+    if list.starts_with('"') || list.contains(",\"") {
+        return push_quoted(names, alloc, list);
+    }
+    for name in list.split(',') {
+        names.push(name.as_bytes())?;
+    }
+    Ok(())
+}
+
+/// Appends the names in the lists that an option takes.
+fn push_names<'a>(
+    names: &mut Vec<&'a [u8]>,
+    alloc: Global,
+    matches: &ArgMatches<'a>,
+    option: &str,
+) -> Result<(), AllocError> {
+    for list in matches.get_strs(option).unwrap_or(&[]) {
+        push_list(names, alloc, *list)?;
+    }
+    Ok(())
+}
+
+impl<'a> Names<'a> {
+    /// Appends the names that the words give. Fails where a key is given twice.
+    fn read(&mut self, alloc: Global, matches: &ArgMatches<'a>) -> Result<()> {
+        push_names(&mut self.keys, alloc, matches, "key")?;
+        push_names(&mut self.only, alloc, matches, "only")?;
+        push_names(&mut self.ignored, alloc, matches, "ignore")?;
+        push_names(&mut self.texts, alloc, matches, "text")?;
+        refuse_repeated(&self.keys)
+    }
+
+    /// Returns the names that the words give. Fails where a key is given twice.
+    pub fn of(alloc: Global, matches: &ArgMatches<'a>) -> Result<Names<'a>> {
+        let mut names = Names {
+            keys: Vec::new(alloc),
+            only: Vec::new(alloc),
+            ignored: Vec::new(alloc),
+            texts: Vec::new(alloc),
+        };
+        names.read(alloc, matches)?;
+        Ok(names)
+    }
+}
+
+/// Returns the byte that a text stands for: its only byte, or a tab for `\t`. Neither a quote nor
+/// the end of a line may stand between fields.
+fn delimiter_of(text: &str) -> Result<u8> {
+    let byte = match text.as_bytes() {
+        b"\\t" => b'\t',
+        [byte] => *byte,
+        _ => return Err(trouble!(
+            "--delimiter takes one byte, or \\t for a tab, not {}",
+            quoted(text)
+        )),
+    };
+    if !is_delimiter(byte) {
+        return Err(trouble!(
+            "--delimiter can be neither a quote nor the end of a line, as {text:?} is"
+        ));
+    }
+    Ok(byte)
+}
+
+/// Returns the options for reading two tables.
+pub fn csv_options(matches: &ArgMatches<'_>, left: &str, right: &str) -> Result<CsvOptions> {
+    let delimiter = match matches.get_str("delimiter") {
+        Some(text) => delimiter_of(text)?,
+        None => usual_delimiter(left, right)?,
+    };
+    Ok(CsvOptions {
+        delimiter,
+        has_header: !matches.get_flag("no-header"),
+    })
+}
+
+/// Returns the whole number that an option is given, or its default. Fails with what the option
+/// takes if it is none.
+fn number_of(matches: &ArgMatches<'_>, option: &str, takes: &str) -> Result<Option<usize>> {
+    let Some(text) = matches.get_str(option) else {
+        return Ok(None);
+    };
+    match text.parse::<usize>() {
+        Ok(number) => Ok(Some(number)),
+        Err(_) => Err(trouble!("--{option} takes {takes}, not {}", quoted(text))),
+    }
+}
+
+/// The destination and the form of the report.
+#[derive(Clone, Copy)]
+pub enum Target<'a> {
+    /// Standard output.
+    Output,
+    /// Standard output, as Markdown.
+    Markdown,
+    /// Standard output, in aligned columns on a terminal of this width, with colours or without.
+    Aligned(usize, bool),
+    /// A file of this name, as a page to look at.
+    Page(&'a str),
+}
+
+/// The most differences in a page, where no other number is given.
+const MOST_IN_PAGE: usize = 10_000;
+
+/// The least number of columns that aligned columns are printed in.
+const LEAST_WIDTH: usize = 40;
+
+/// Returns the width of the terminal, if aligned columns are asked for. Fails if it is too small.
+fn width_of(matches: &ArgMatches<'_>) -> Result<Option<usize>> {
+    let width = number_of(matches, "width", "a whole number of columns such as 100")?;
+    if let Some(width) = width
+        && width < LEAST_WIDTH
+    {
+        return Err(trouble!("--width takes {LEAST_WIDTH} columns or more, not {width}"));
+    }
+    Ok(width)
+}
+
+/// Returns the destination and the form of the report.
+pub fn target_of<'a>(rt: &HostRuntime, matches: &ArgMatches<'a>) -> Result<Target<'a>> {
+    if let Some(width) = width_of(matches)? {
+        let colored = is_colored(rt, matches);
+        return Ok(Target::Aligned(width, colored));
+    }
+    match matches.get_str("html") {
+        Some("-") => Err(trouble!(
+            "--html takes the name of a file, not -: for standard output give /dev/stdout"
+        )),
+        Some(path) => Ok(Target::Page(path)),
+        None if matches.get_flag("markdown") => Ok(Target::Markdown),
+        None => Ok(Target::Output),
+    }
+}
+
+/// Returns the number of differences to print. On the command line the limit 0 stands for all.
+pub fn limit_of(matches: &ArgMatches<'_>) -> Result<usize> {
+    let limit = number_of(matches, "limit", "a whole number such as 100, or 0 for all")?;
+    if matches.get_flag("summary") {
+        return Ok(0);
+    }
+    let is_given = matches.value_source("limit") == Some(ValueSource::CommandLine);
+    if matches.contains_id("html") && !is_given {
+        return Ok(MOST_IN_PAGE);
+    }
+    match limit {
+        Some(0) => Ok(usize::MAX),
+        Some(limit) => Ok(limit),
+        None => Ok(20),
+    }
+}
+
+/// Returns the format of the report. Pages, Markdown and aligned columns are made of JSON lines.
+pub fn format_of(matches: &ArgMatches<'_>) -> Format {
+    if matches.contains_id("html") || matches.get_flag("markdown") || matches.contains_id("width") {
+        return Format::Json;
+    }
+    match matches.get_str("format") {
+        Some("json") => Format::Json,
+        _ => Format::Text,
+    }
+}
+
+/// Returns whether the environment asks for no colours: `NO_COLOR` is there, and not empty.
+fn asks_no_color(rt: &HostRuntime) -> bool {
+    match env::var(rt, "NO_COLOR") {
+        Ok(value) => !value.is_empty(),
+        Err(VarError::NotPresent) => false,
+        Err(_) => true,
+    }
+}
+
+/// Returns whether the report has colours: if they are asked for, or on a terminal.
+pub fn is_colored(rt: &HostRuntime, matches: &ArgMatches<'_>) -> bool {
+    match matches.get_str("color") {
+        Some("always") => true,
+        Some("never") => false,
+        _ => rt.stdout().is_terminal() && !asks_no_color(rt),
+    }
+}

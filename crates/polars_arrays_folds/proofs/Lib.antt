@@ -1,4 +1,0 @@
-pub mod CommonBits
-pub mod Examples
-pub mod FoldSteps
-pub mod WordFlags

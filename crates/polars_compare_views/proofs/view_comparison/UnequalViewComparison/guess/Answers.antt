@@ -1,5 +1,0 @@
-use Rattle.std.proofs.Common.{rules}
-use Rattle.polars_compare_views.proofs.view_comparison.UnequalViewComparison.guess.Goals as goal
-
-pub returns : goal.returns
-returns c = search rules

@@ -1,7 +1,0 @@
-use Rattle.std.proofs.Common.{not, false}
-use Rattle.polars_compute_bits.specs.Bitwise.{leading_run}
-use Rattle.polars_compute_bits.proofs.TruthRows.{are-counts, one_leading_zeros}
-use Rattle.polars_compute_bits.proofs.bitwise.BooleanArrayBitwiseKernel.leading_zeros.Goals as goal
-
-pub returns : goal.returns
-returns c = are-counts (leading_run not) false one_leading_zeros c.args.self.now c.count_truth_rows.result c.count_truth_rows.ensures

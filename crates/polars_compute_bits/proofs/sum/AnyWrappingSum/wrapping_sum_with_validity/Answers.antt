@@ -1,9 +1,0 @@
-use Rattle.std.proofs.Common.{◌∙◌}
-use Rattle.num_traits.specs.Laws.{bit_len}
-use Rattle.polars_arrays_flat.specs.StoredRows.{masked, number_slots}
-use Rattle.polars_compute_bits.specs.SumLaws.{folded-total}
-use Rattle.polars_compute_bits.proofs.sum.AnyWrappingSum.wrapping_sum_with_validity.Goals as goal
-
-pub returns : goal.returns
-returns g c =
-    c.fold_present.ensures ∙ folded-total g.T.Bounded.low (bit_len g.T.FixedWidth.width) (masked c.args.mask.now (number_slots g.T.Number.value c.args.vals.now))

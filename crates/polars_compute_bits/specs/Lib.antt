@@ -1,4 +1,0 @@
-pub mod BitLaws
-pub mod Bitwise
-pub mod Sum
-pub mod SumLaws
