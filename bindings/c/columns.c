@@ -43,14 +43,8 @@ static int32_t give_bits(struct bits *bits, int32_t status, uint8_t *out) {
 }
 
 /* Finds the null rows of a dictionary, a window of rows at a time: those whose key is null, or
- * whose entry is. Kernels that compare no trees serve none. */
+ * whose entry is. */
 static int32_t null_entries(struct column *column, struct bits *bits, uint64_t *count) {
-#ifdef DUNKELVA_NUMBERS_ONLY
-  (void)column;
-  (void)bits;
-  (void)count;
-  return DUNKELVA_NOT_SERVED;
-#else
   int64_t window = dunkelva_window(column);
   int64_t done = 0;
   do { /* a window of no rows is one too: the entries are checked */
@@ -63,7 +57,6 @@ static int32_t null_entries(struct column *column, struct bits *bits, uint64_t *
     done += rows;
   } while (done < bits->rows);
   return DUNKELVA_OK;
-#endif
 }
 
 /* Finds the null rows of a column. In all types but dictionaries and those that have no validity a

@@ -3,9 +3,6 @@
 
 #include <stdlib.h>
 #include <string.h>
-#ifdef __SSE2__
-#include <emmintrin.h>
-#endif
 
 /* Rows of two columns, and their results, which are kept here until all windows are done. */
 struct pair {
@@ -29,8 +26,7 @@ static int32_t describe_window(struct pair *pair, int64_t done, int64_t count) {
   return dunkelva_describe(&pair->right, pair->right_first + done, count);
 }
 
-/* Compares the rows that were described. Numbers are not copied, unless comparisons are counted.
- * Kernels that compare no trees serve numbers alone. */
+/* Compares the rows that were described. Numbers are not copied, unless comparisons are counted. */
 static int32_t compare_parts(struct pair *pair, uint64_t *out, int64_t count) {
   struct column *left = &pair->left;
   struct column *right = &pair->right;
@@ -38,9 +34,6 @@ static int32_t compare_parts(struct pair *pair, uint64_t *out, int64_t count) {
   if (pair->comparisons == NULL && dunkelva_is_numbers(left) && dunkelva_is_numbers(right)) {
     return dunkelva_parts_equal_lent(left->parts, right->parts, out, words);
   }
-#ifdef DUNKELVA_NUMBERS_ONLY
-  return DUNKELVA_NOT_SERVED;
-#else
   uint64_t comparisons = 0;
   TRY(dunkelva_parts_equal(left->parts, left->extent.parts, right->parts, right->extent.parts, out,
                            words, &comparisons, 1));
@@ -48,7 +41,6 @@ static int32_t compare_parts(struct pair *pair, uint64_t *out, int64_t count) {
     *pair->comparisons += comparisons;
   }
   return DUNKELVA_OK;
-#endif
 }
 
 static int32_t compare_windows(struct pair *pair) {
@@ -73,33 +65,6 @@ static size_t room_for(enum form form, int64_t rows) {
   return (size_t)(form == AS_BITS ? bytes_for_bits(rows) : rows);
 }
 
-#ifdef __SSE2__
-/* Writes 16 bytes, 0 or 1, of two bytes of a word, of which each comes eight times. */
-static void spread_bytes(__m128i eight_times, uint8_t *bytes) {
-  const __m128i places = _mm_set1_epi64x((int64_t)0x8040201008040201U);
-  __m128i truths = _mm_min_epu8(_mm_and_si128(eight_times, places), _mm_set1_epi8(1));
-  _mm_storeu_si128((__m128i *)(void *)bytes, truths);
-}
-#endif
-
-/* Writes a byte, 0 or 1, for each bit of a word. */
-static void spread_word(uint64_t word, uint8_t *bytes) {
-#ifdef __SSE2__
-  __m128i bits = _mm_set_epi64x(0, (int64_t)word);
-  __m128i twice = _mm_unpacklo_epi8(bits, bits); /* each byte of the word two times */
-  __m128i low = _mm_unpacklo_epi16(twice, twice);
-  __m128i high = _mm_unpackhi_epi16(twice, twice);
-  spread_bytes(_mm_unpacklo_epi32(low, low), bytes);
-  spread_bytes(_mm_unpackhi_epi32(low, low), bytes + 16);
-  spread_bytes(_mm_unpacklo_epi32(high, high), bytes + 32);
-  spread_bytes(_mm_unpackhi_epi32(high, high), bytes + 48);
-#else
-  for (int i = 0; i < 64; i++) {
-    bytes[i] = (uint8_t)(word >> i & 1);
-  }
-#endif
-}
-
 /* Writes the results of some rows, which are done. */
 static void give(const struct pair *pair, enum form form, uint8_t *out) {
   if (form == AS_BITS) {
@@ -108,9 +73,7 @@ static void give(const struct pair *pair, enum form form, uint8_t *out) {
   }
   size_t rows = (size_t)pair->rows;
   size_t whole = rows / 64;
-  for (size_t k = 0; k < whole; k++) {
-    spread_word(pair->words[k], out + 64 * k);
-  }
+  dunkelva_spread(pair->words, whole, out);
   for (size_t i = 64 * whole; i < rows; i++) {
     out[i] = (uint8_t)(pair->words[whole] >> (i % 64) & 1);
   }

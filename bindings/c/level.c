@@ -10,10 +10,8 @@
 #include <string.h>
 
 /* The exports of both levels. */
-#ifndef DUNKELVA_NUMBERS_ONLY
 __typeof__(dunkelva_parts_equal) dunkelva_parts_equal_v2, dunkelva_parts_equal_v3;
 __typeof__(dunkelva_parts_are_null) dunkelva_parts_are_null_v2, dunkelva_parts_are_null_v3;
-#endif
 __typeof__(dunkelva_parts_equal_lent) dunkelva_parts_equal_lent_v2, dunkelva_parts_equal_lent_v3;
 __typeof__(dunkelva_parts_compare) dunkelva_parts_compare_v2, dunkelva_parts_compare_v3;
 __typeof__(dunkelva_part_is_null) dunkelva_part_is_null_v2, dunkelva_part_is_null_v3;
@@ -76,12 +74,13 @@ __attribute__((constructor)) static void choose_level(void) {
   takes_v3 = dunkelva_has_v3(&processor) && (forced == NULL || strcmp(forced, "v2") != 0);
 }
 
+bool dunkelva_takes_v3(void) { return takes_v3; }
+
 /* The arguments of ROOM_FOR_NUMBERS. */
 #define ROOM                                                                                  \
   i8s, i8s_len, i16s, i16s_len, i32s, i32s_len, i64s, i64s_len, u8s, u8s_len, u16s, u16s_len, \
       u32s, u32s_len, u64s, u64s_len, present, present_len, nulls
 
-#ifndef DUNKELVA_NUMBERS_ONLY
 int32_t dunkelva_parts_equal(const struct part *left, size_t left_len, const struct part *right,
                              size_t right_len, uint64_t *out, size_t out_len, uint64_t *comparisons,
                              size_t comparisons_len) {
@@ -94,7 +93,6 @@ int32_t dunkelva_parts_are_null(const struct part *parts, size_t len, uint64_t *
   return (takes_v3 ? dunkelva_parts_are_null_v3 : dunkelva_parts_are_null_v2)(parts, len, out,
                                                                               out_len, count);
 }
-#endif
 
 int32_t dunkelva_parts_equal_lent(const struct part *left, const struct part *right, uint64_t *out,
                                   size_t out_len) {

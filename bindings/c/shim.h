@@ -114,4 +114,10 @@ struct processor {
 /* Returns whether a processor runs code for x86-64-v3. */
 bool dunkelva_has_v3(const struct processor *processor);
 
+/* Returns whether the kernels for x86-64-v3 run, in a library that has them. */
+bool dunkelva_takes_v3(void);
+
+/* Writes 64 bytes for each of some words: 0 or 1 for each bit. */
+void dunkelva_spread(const uint64_t *words, size_t count, uint8_t *bytes);
+
 #endif

@@ -1,9 +1,9 @@
 //! Arithmetic, row by row.
 #![forbid(unsafe_code)]
 
-use crate::format::Integer;
 use crate::structs::Typed;
 use crate::sys::{self, Wide};
+use crate::types::Integer;
 use crate::{Error, Numbers};
 use std::os::raw::c_uint;
 

@@ -1,11 +1,11 @@
 //! Columns that are lent to the library.
 #![forbid(unsafe_code)]
 
-use crate::format::sealed::Sealed;
-use crate::format::{is_kept_as, numbers_of, Integer, Number};
 use crate::lent::{shared, Content, Lent, Shared};
 #[cfg(feature = "ffi")]
 use crate::sys::Foreign;
+use crate::types::sealed::Sealed;
+use crate::types::{is_kept_as, numbers_of, Integer, Number};
 use crate::{BitBuffer, Bitmap, Error, Mask, Numbers};
 use std::ffi::CString;
 use std::fmt;
@@ -113,7 +113,7 @@ impl<'a> Array<'a> {
     /// Says what numbers of type `i32` or `i64` stand for, by a format of the
     /// [Arrow C data interface](https://arrow.apache.org/docs/format/CDataInterface.html): dates
     /// (`tdD`), times of a day, points in time (`tsu:UTC`), spans, decimals of 32 and 64 bits
-    /// (`d:9,2,32`, of up to 9 and 18 digits).
+    /// (`d:9,2,32`, of up to 9 and 18 digits). [`format`](crate::format) has names for these.
     ///
     /// # Errors
     ///
@@ -122,9 +122,9 @@ impl<'a> Array<'a> {
     /// # Examples
     ///
     /// ```
-    /// use dunkelva::{equal, Array, Error};
+    /// use dunkelva::{equal, format, Array, Error};
     ///
-    /// let days = Array::numbers(&[19_000_i32, 19_001]).with_format("tdD")?;
+    /// let days = Array::numbers(&[19_000_i32, 19_001]).with_format(format::DATE32)?;
     /// let error = equal(&days, &Array::numbers(&[19_000_i32, 19_001])).unwrap_err();
     /// assert_eq!(error.to_string(), "the types differ: tdD (Date32) and i (Int32)");
     /// # Ok::<(), Error>(())

@@ -18,7 +18,7 @@ use std::ops::Deref;
 ///
 /// /// Returns the lists [7, 8] and [9].
 /// fn lists() -> Result<Array<'static>, Error> {
-///     Array::list(vec![0, 2, 3], Array::numbers(vec![7, 8, 9]))
+///     Array::lists(vec![0, 2, 3], Array::numbers(vec![7, 8, 9]))
 /// }
 /// assert_eq!(lists()?.len(), 2);
 /// # Ok::<(), Error>(())

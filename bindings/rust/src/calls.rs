@@ -3,21 +3,54 @@
 
 use crate::structs::Structs;
 use crate::sys::{self, Wide};
-use crate::{Array, Error, Mask};
+use crate::{AnyInteger, Array, Error, Mask};
 use std::os::raw::c_uint;
 
-/// The way in which [`equal_with`] compares rows.
-#[derive(Clone, Copy, Debug, Default, PartialEq, Eq)]
+/// The way in which [`equal_with`] compares rows. The default is that of [`equal`].
+///
+/// # Examples
+///
+/// ```
+/// use dunkelva::EqualOptions;
+///
+/// let options = EqualOptions::new().floats_by_bits(true).check_texts(true);
+/// assert_ne!(options, EqualOptions::default());
+/// ```
+#[derive(Clone, Copy, Debug, Default, PartialEq, Eq, Hash)]
 pub struct EqualOptions {
-    /// Takes floats too, and compares their bits: a NaN is equal to a NaN of the same bits, and
-    /// -0 is not equal to 0.
-    pub floats_by_bits: bool,
-    /// Checks that texts are UTF-8, which takes several times as long as the comparison. Without
-    /// it texts are compared as bytes.
-    pub check_texts: bool,
+    floats_by_bits: bool,
+    check_texts: bool,
 }
 
 impl EqualOptions {
+    /// Returns the options of [`equal`].
+    pub const fn new() -> Self {
+        EqualOptions {
+            floats_by_bits: false,
+            check_texts: false,
+        }
+    }
+
+    /// Says whether to take floats too, and to compare their bits: a NaN is equal to a NaN of the
+    /// same bits, and -0 is not equal to 0.
+    #[must_use]
+    pub const fn floats_by_bits(self, floats_by_bits: bool) -> Self {
+        EqualOptions {
+            floats_by_bits,
+            ..self
+        }
+    }
+
+    /// Says whether to check that texts are UTF-8, which takes several times as long as the
+    /// comparison. Without that texts are compared as bytes.
+    #[must_use]
+    pub const fn check_texts(self, check_texts: bool) -> Self {
+        EqualOptions {
+            check_texts,
+            ..self
+        }
+    }
+
     fn flags(self) -> u32 {
         u32::from(self.floats_by_bits) | u32::from(self.check_texts) << 1
     }
@@ -28,7 +61,7 @@ impl EqualOptions {
 pub enum Comparison {
     /// Both are the same number, or both are null.
     Equal = 0,
-    /// They differ, or one of them is null.
+    /// They differ, or exactly one of them is null.
     Unequal = 1,
     /// The left one is less, and none is null.
     Less = 2,
@@ -45,7 +78,7 @@ pub enum Comparison {
 pub enum BitOperation {
     /// A bit is 1 where it is 1 in all numbers.
     And = 0,
-    /// A bit is 1 where it is 1 in a number.
+    /// A bit is 1 where it is 1 in at least one number.
     Or = 1,
     /// A bit is 1 where it is 1 in an odd count of numbers.
     Xor = 2,
@@ -101,8 +134,7 @@ pub fn not_equal(left: &Array<'_>, right: &Array<'_>) -> Result<Mask, Error> {
 ///
 /// let left = Array::numbers(&[0.5, f64::NAN, 0.0]);
 /// let right = Array::numbers(&[0.5, f64::NAN, -0.0]);
-/// let by_bits = EqualOptions { floats_by_bits: true, ..EqualOptions::default() };
-/// let same = equal_with(&left, &right, by_bits)?;
+/// let same = equal_with(&left, &right, EqualOptions::new().floats_by_bits(true))?;
 /// assert_eq!(same.iter().collect::<Vec<_>>(), [true, true, false]);
 /// # Ok::<(), Error>(())
 /// ```
@@ -127,7 +159,7 @@ pub fn equal_with(
 /// ```
 /// use dunkelva::{equal_counted, Array, EqualOptions, Error};
 ///
-/// let lists = Array::list(&[0, 2, 3], Array::numbers(&[1, 2, 3]))?;
+/// let lists = Array::lists(&[0, 2, 3], Array::numbers(&[1, 2, 3]))?;
 /// let (same, comparisons) = equal_counted(&lists, &lists, EqualOptions::default())?;
 /// assert!(same.all());
 /// assert_eq!(comparisons, 3);
@@ -219,9 +251,9 @@ pub fn compare(left: &Array<'_>, comparison: Comparison, right: &Array<'_>) -> R
 pub fn compare_number(
     array: &Array<'_>,
     comparison: Comparison,
-    number: impl Into<i128>,
+    number: impl AnyInteger,
 ) -> Result<Mask, Error> {
-    let (structs, number) = (Structs::of(array), number.into());
+    let (structs, number) = (Structs::of(array), number.widen());
     Mask::written(array.len(), |out| {
         let wide = Wide::of(number);
         let status = sys::compare_number(comparison as c_uint, &structs, &wide, out);
@@ -350,8 +382,8 @@ fn of_two(
     })
 }
 
-/// Returns the version of libdunkelva.
-pub fn version() -> &'static str {
+/// Returns the version of the library `libdunkelva`.
+pub fn library_version() -> &'static str {
     sys::version()
 }
 

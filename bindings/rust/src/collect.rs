@@ -1,8 +1,8 @@
 //! Arrays of vectors, slices and iterators.
 #![forbid(unsafe_code)]
 
-use crate::format::{Number, Offset};
 use crate::lent::shared;
+use crate::types::{Number, Offset};
 use crate::{Array, Error, Mask};
 
 impl<'a, T: Number> From<&'a [T]> for Array<'a> {

@@ -85,7 +85,8 @@ pub enum Error {
     },
     /// An offset is less than the one before it, or less than 0.
     BadOffsets,
-    /// Texts or byte strings have more than `i32::MAX` bytes.
+    /// Texts or byte strings have more than `i32::MAX` bytes. [`Array::texts`] and
+    /// [`Array::binary`] take more, with offsets of `i64`.
     TooLong,
     /// A format does not fit the numbers of an array.
     BadFormat {
@@ -198,7 +199,10 @@ impl fmt::Display for Error {
                 write!(f, "the offsets end at {end}, but there are {has} {what}")
             }
             Error::SliceOutOfBounds { first, rows, len } => {
-                write!(f, "there are no {rows} rows from row {first} on, of {len}")
+                write!(
+                    f,
+                    "{rows} rows from row {first} on were asked for, and the array has {len}"
+                )
             }
             Error::BadPrecision { precision } => write!(
                 f,
@@ -243,7 +247,10 @@ impl Error {
     fn fixed_message(&self) -> &'static str {
         match self {
             Error::BadOffsets => "an offset is less than the one before it, or less than 0",
-            Error::TooLong => "the texts or byte strings have more than 2147483647 bytes",
+            Error::TooLong => {
+                "the texts or byte strings have more than 2147483647 bytes; use `Array::texts` or \
+                 `Array::binary` with offsets of `i64`"
+            }
             Error::TooDeep => "the types are nested more than 64 levels deep",
             Error::TooManyTypes => "there are more than 1048576 types in types",
             Error::ForeignValidity => "a column of another crate has a validity of its own",

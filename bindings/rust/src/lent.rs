@@ -1,8 +1,8 @@
 //! The memory that an array lends.
 #![forbid(unsafe_code)]
 
-use crate::format::sealed::{Sealed, Slice};
 use crate::sys::Foreign;
+use crate::types::sealed::{Sealed, Slice};
 use crate::{Array, Buffer};
 use std::borrow::Cow;
 use std::ffi::{c_void, CString};

@@ -10,7 +10,7 @@ mod calls;
 mod collect;
 mod counts;
 mod error;
-mod format;
+pub mod format;
 mod lent;
 mod make;
 mod mask;
@@ -19,6 +19,7 @@ mod numbers;
 mod structs;
 #[allow(unsafe_code)]
 mod sys;
+mod types;
 mod unique;
 mod views;
 
@@ -30,16 +31,16 @@ pub use crate::array::Array;
 pub use crate::bitmap::{Bitmap, Bits};
 pub use crate::buffer::{BitBuffer, Buffer};
 pub use crate::calls::{
-    compare, compare_number, equal, equal_counted, equal_with, is_null, max, min, min_max,
-    not_equal, reduce_bits, version, wrapping_sum, BitOperation, Comparison, EqualOptions,
+    compare, compare_number, equal, equal_counted, equal_with, is_null, library_version, max, min,
+    min_max, not_equal, reduce_bits, wrapping_sum, BitOperation, Comparison, EqualOptions,
 };
 pub use crate::counts::{
     count_ones, count_zeros, leading_ones, leading_zeros, trailing_ones, trailing_zeros,
 };
 pub use crate::error::Error;
-pub use crate::format::{Integer, Number, Offset};
 pub use crate::mask::Mask;
-pub use crate::numbers::{Numbers, Rows};
+pub use crate::numbers::{IntoRows, Numbers, Rows};
+pub use crate::types::{AnyInteger, Integer, Number, Offset};
 pub use crate::unique::Unique;
 
 /// The structs of the Arrow C data interface, which [`Array::from_raw`] takes.

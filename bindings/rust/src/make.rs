@@ -1,8 +1,8 @@
 //! How arrays are made of elements and of other arrays.
 #![forbid(unsafe_code)]
 
-use crate::format::{Integer, Number, Offset};
 use crate::lent::{shared, Content, Field, Lent, Shared};
+use crate::types::{Integer, Number, Offset};
 use crate::{Array, BitBuffer, Buffer, Error};
 use std::borrow::Cow;
 use std::ffi::CString;
@@ -202,12 +202,12 @@ impl<'a> Array<'a> {
     /// use dunkelva::{equal, Array, Error};
     ///
     /// let (offsets, items) = (vec![0, 2, 2, 3], vec![7, 8, 9]);
-    /// let lists = Array::list(&offsets, Array::from(&items))?; // [7, 8] [] [9]
-    /// let others = Array::list(vec![0, 1, 1, 2], Array::numbers(vec![7, 9]))?; // [7] [] [9]
+    /// let lists = Array::lists(&offsets, Array::from(&items))?; // [7, 8] [] [9]
+    /// let others = Array::lists(vec![0, 1, 1, 2], Array::numbers(vec![7, 9]))?; // [7] [] [9]
     /// assert_eq!(equal(&lists, &others)?.iter().collect::<Vec<_>>(), [false, true, true]);
     /// # Ok::<(), Error>(())
     /// ```
-    pub fn list<O: Offset>(
+    pub fn lists<O: Offset>(
         offsets: impl Into<Buffer<'a, O>>,
         items: Array<'a>,
     ) -> Result<Self, Error> {
@@ -224,7 +224,7 @@ impl<'a> Array<'a> {
     /// [`Error::WrongLength`], if there are fewer items than rows of this width;
     /// [`Error::TooDeep`] for more than 64 levels of types in types; [`Error::TooManyTypes`] for
     /// more than 2^20 types.
-    pub fn fixed_size_list(rows: usize, width: usize, items: Array<'a>) -> Result<Self, Error> {
+    pub fn fixed_size_lists(rows: usize, width: usize, items: Array<'a>) -> Result<Self, Error> {
         has_at_least("items", items.rows, rows.saturating_mul(width))?;
         let format = format!("+w:{width}\0").into_bytes();
         Array::nested(rows, format, Vec::new(), Field::items(items), None)

@@ -3,32 +3,34 @@
 
 use crate::arithmetic::copied;
 use crate::bitmap::Bits;
-use crate::format::{Integer, Number};
 use crate::lent::Content;
 use crate::mask::zeros;
 use crate::structs::{Structs, Typed};
-use crate::{Array, BitBuffer, Bitmap, Error, Mask};
+use crate::types::{Integer, Number};
+use crate::{calls, Array, BitBuffer, BitOperation, Bitmap, Error, Mask};
 use std::fmt;
 use std::iter::FusedIterator;
 use std::marker::PhantomData;
-use std::ops::Deref;
+use std::ops::{Deref, Range};
 use std::slice;
 
 /// An [`Array`] of numbers of type `T`, which are borrowed or owned. Some may be null.
 ///
 /// Arithmetic takes and returns these, so that types are checked when a program is compiled. All
-/// other calls take them as arrays.
+/// other calls take them as arrays. Those of one number for all rows are methods too, which return
+/// a number of type `T`.
 ///
 /// # Examples
 ///
 /// ```
-/// use dunkelva::{max, wrapping_add, Array, Error, Numbers};
+/// use dunkelva::{wrapping_add, wrapping_sub, Array, Error, Numbers};
 ///
 /// let prices = vec![500_i64, 650, 800];
 /// let prices = Numbers::from(&prices);
 /// let dearer = wrapping_add(&prices, 50)?;
 /// assert_eq!(dearer.values(), [550, 700, 850]);
-/// assert_eq!(max(&dearer)?, Some(850));
+/// let least: i64 = dearer.min()?.unwrap_or_default();
+/// assert_eq!(wrapping_sub(&dearer, least)?.values(), [0, 150, 300]);
 /// let articles = Array::structs(3, [("price", Array::from(dearer))])?;
 /// # Ok::<(), Error>(())
 /// ```
@@ -123,6 +125,101 @@ impl<'a, T: Number> Numbers<'a, T> {
     }
 }
 
+/// One number for all rows.
+impl<T: Integer> Numbers<'_, T> {
+    /// Finds the least row that is not null, if there is one: [`min`](crate::min).
+    ///
+    /// # Errors
+    ///
+    /// [`Error::NoMemory`].
+    ///
+    /// # Examples
+    ///
+    /// ```
+    /// use dunkelva::{wrapping_sub, Error, Numbers};
+    ///
+    /// let prices: Numbers<i64> = [Some(500), Some(650), None].into_iter().collect();
+    /// let least = prices.min()?.unwrap_or_default();
+    /// let above = wrapping_sub(&prices, least)?;
+    /// assert!(above.iter().eq([Some(0), Some(150), None]));
+    /// # Ok::<(), Error>(())
+    /// ```
+    pub fn min(&self) -> Result<Option<T>, Error> {
+        self.of_type(calls::min(self)?)
+    }
+
+    /// Finds the greatest row that is not null, if there is one: [`max`](crate::max).
+    ///
+    /// # Errors
+    ///
+    /// [`Error::NoMemory`].
+    pub fn max(&self) -> Result<Option<T>, Error> {
+        self.of_type(calls::max(self)?)
+    }
+
+    /// Finds the least and the greatest row that is not null, if there is one:
+    /// [`min_max`](crate::min_max).
+    ///
+    /// # Errors
+    ///
+    /// [`Error::NoMemory`].
+    pub fn min_max(&self) -> Result<Option<(T, T)>, Error> {
+        let both = calls::min_max(self)?;
+        let least = self.of_type(both.map(|it| it.0))?;
+        Ok(least.zip(self.of_type(both.map(|it| it.1))?))
+    }
+
+    /// Returns the sum of the rows that are not null, wrapped to the type, or `None` if no row is
+    /// present: [`wrapping_sum`](crate::wrapping_sum).
+    ///
+    /// # Errors
+    ///
+    /// [`Error::NoMemory`].
+    ///
+    /// # Examples
+    ///
+    /// ```
+    /// use dunkelva::{Error, Numbers};
+    ///
+    /// assert_eq!(Numbers::from(&[100_i8, 100]).wrapping_sum()?, Some(-56_i8));
+    /// # Ok::<(), Error>(())
+    /// ```
+    pub fn wrapping_sum(&self) -> Result<Option<T>, Error> {
+        self.of_type(calls::wrapping_sum(self)?)
+    }
+
+    /// Joins the bits of all rows that are not null, if there is one:
+    /// [`reduce_bits`](crate::reduce_bits).
+    ///
+    /// # Errors
+    ///
+    /// [`Error::NoMemory`].
+    ///
+    /// # Examples
+    ///
+    /// ```
+    /// use dunkelva::{BitOperation, Error, Numbers};
+    ///
+    /// let rows = Numbers::from(&[0b1100_u8, 0b0110]);
+    /// assert_eq!(rows.reduce_bits(BitOperation::Or)?, Some(0b1110_u8));
+    /// # Ok::<(), Error>(())
+    /// ```
+    pub fn reduce_bits(&self, operation: BitOperation) -> Result<Option<T>, Error> {
+        self.of_type(calls::reduce_bits(self, operation)?)
+    }
+
+    /// Returns a number in the type of the rows, which has each number that a call returns.
+    fn of_type(&self, number: Option<i128>) -> Result<Option<T>, Error> {
+        let same = |number| {
+            T::try_from(number).map_err(|_| Error::NotRepresentable {
+                number,
+                format: self.format().into(),
+            })
+        };
+        number.map(same).transpose()
+    }
+}
+
 impl<'a, T: Integer> Numbers<'a, T> {
     /// Takes an array whose plain format is that of `T`.
     pub(crate) fn of(array: &Array<'a>) -> Result<Self, Error> {
@@ -178,6 +275,12 @@ impl<'a, T> Deref for Numbers<'a, T> {
     type Target = Array<'a>;
 
     fn deref(&self) -> &Array<'a> {
+        &self.array
+    }
+}
+
+impl<'a, T> AsRef<Array<'a>> for Numbers<'a, T> {
+    fn as_ref(&self) -> &Array<'a> {
         &self.array
     }
 }
@@ -254,6 +357,41 @@ impl<'n, T: Number> IntoIterator for &'n Numbers<'_, T> {
         self.iter()
     }
 }
+
+impl<'a, T: Number> IntoIterator for Numbers<'a, T> {
+    type Item = Option<T>;
+    type IntoIter = IntoRows<'a, T>;
+
+    fn into_iter(self) -> IntoRows<'a, T> {
+        let rows = 0..self.len();
+        IntoRows {
+            numbers: self,
+            rows,
+        }
+    }
+}
+
+/// The rows of [`Numbers`], which it owns, with `None` for nulls.
+#[derive(Clone, Debug)]
+pub struct IntoRows<'a, T: Number> {
+    numbers: Numbers<'a, T>,
+    rows: Range<usize>,
+}
+
+impl<T: Number> Iterator for IntoRows<'_, T> {
+    type Item = Option<T>;
+
+    fn next(&mut self) -> Option<Option<T>> {
+        self.numbers.get(self.rows.next()?)
+    }
+
+    fn size_hint(&self) -> (usize, Option<usize>) {
+        self.rows.size_hint()
+    }
+}
+
+impl<T: Number> ExactSizeIterator for IntoRows<'_, T> {}
+impl<T: Number> FusedIterator for IntoRows<'_, T> {}
 
 /// The rows of [`Numbers`], with `None` for nulls.
 #[derive(Clone, Debug)]

@@ -4,8 +4,8 @@
 //! ([`Structs`]). It writes to what it is lent for results alone, no more than their length, and
 //! keeps nothing. So the functions of this module are safe, except `from_raw`.
 
-use crate::format::{numbers_of, Integer};
 use crate::structs::{ArrowArray, ArrowSchema, Structs, Typed};
+use crate::types::{numbers_of, Integer};
 use std::ffi::CStr;
 use std::marker::PhantomData;
 use std::mem::{align_of, size_of, MaybeUninit};
@@ -308,6 +308,64 @@ impl<'a> crate::Array<'a> {
     /// `FFI_ArrowSchema` of arrow-rs, whose pointers are cast.
     ///
     /// Nothing is released. Types that the library does not serve are refused by its calls.
+    ///
+    /// # Examples
+    ///
+    /// A column of arrow-rs, with its feature `ffi`:
+    ///
+    /// ```ignore
+    /// use arrow::array::{Array as _, Int64Array};
+    ///
+    /// let column = Int64Array::from(vec![Some(1), None, Some(3)]);
+    /// let (array, schema) = arrow::ffi::to_ffi(&column.to_data())?;
+    /// let (array_at, schema_at) = (std::ptr::addr_of!(array), std::ptr::addr_of!(schema));
+    /// // SAFETY: arrow-rs keeps the rules, and `schema` and `array` live longer than `lent`.
+    /// let lent = unsafe { dunkelva::Array::from_raw(array_at.cast(), schema_at.cast()) }?;
+    /// println!("{:?}", dunkelva::wrapping_sum(&lent)?);
+    /// ```
+    ///
+    /// Structs that are filled in by hand:
+    ///
+    /// ```
+    /// use dunkelva::ffi::{ArrowArray, ArrowSchema};
+    /// use dunkelva::{wrapping_sum, Array, Error};
+    /// use std::ffi::c_void;
+    /// use std::ptr::{addr_of, null, null_mut};
+    ///
+    /// extern "C" fn keep_schema(_: *mut ArrowSchema) {}
+    /// extern "C" fn keep_array(_: *mut ArrowArray) {}
+    ///
+    /// let numbers = [1_i64, 20, 300];
+    /// let no_validity = null();
+    /// let mut buffers: [*const c_void; 2] = [no_validity, numbers.as_ptr().cast()];
+    /// let schema = ArrowSchema {
+    ///     format: b"l\0".as_ptr().cast(),
+    ///     name: null(),
+    ///     metadata: null(),
+    ///     flags: 0,
+    ///     n_children: 0,
+    ///     children: null_mut(),
+    ///     dictionary: null_mut(),
+    ///     release: Some(keep_schema),
+    ///     private_data: null_mut(),
+    /// };
+    /// let array = ArrowArray {
+    ///     length: 3,
+    ///     null_count: 0,
+    ///     offset: 0,
+    ///     n_buffers: 2,
+    ///     n_children: 0,
+    ///     buffers: buffers.as_mut_ptr(),
+    ///     children: null_mut(),
+    ///     dictionary: null_mut(),
+    ///     release: Some(keep_array),
+    ///     private_data: null_mut(),
+    /// };
+    /// // SAFETY: the structs keep the rules, and all of these live longer than `lent`.
+    /// let lent = unsafe { Array::from_raw(addr_of!(array), addr_of!(schema)) }?;
+    /// assert_eq!(wrapping_sum(&lent)?, Some(321));
+    /// # Ok::<(), Error>(())
+    /// ```
     ///
     /// # Safety
     ///

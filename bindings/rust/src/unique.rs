@@ -1,11 +1,11 @@
 //! States of distinct values.
 #![forbid(unsafe_code)]
 
-use crate::format::bounds;
 use crate::mask::zeros;
 use crate::structs::Structs;
 use crate::sys::{self, State, StateView, Wide};
-use crate::{Array, Error};
+use crate::types::bounds;
+use crate::{AnyInteger, Array, Error};
 use std::ops::RangeInclusive;
 
 /// The distinct values of arrays whose rows are null or numbers of one range.
@@ -44,9 +44,9 @@ impl Unique {
     ///
     /// [`Error::BadRange`], if the range is empty, or has 2^64 - 1 numbers or more, its ends
     /// included; [`Error::NoMemory`], if there is no memory for a bit for each.
-    pub fn new<N: Into<i128>>(range: RangeInclusive<N>) -> Result<Self, Error> {
+    pub fn new<N: AnyInteger>(range: RangeInclusive<N>) -> Result<Self, Error> {
         let (least, greatest) = range.into_inner();
-        let (least, greatest) = (least.into(), greatest.into());
+        let (least, greatest) = (least.widen(), greatest.widen());
         let words = sys::unique_words(&Wide::of(least), &Wide::of(greatest));
         if words == 0 {
             return Err(Error::BadRange { least, greatest });

@@ -124,7 +124,13 @@ fn arrays_of_numbers() -> Result<(), Error> {
         assert!((&numbers).into_iter().eq([Some(7), Some(8)]));
         assert_eq!(numbers.iter().len(), 2);
         assert_eq!(format!("{numbers:?}"), "[Some(7), Some(8)]");
+        let array: &Array<'_> = numbers.as_ref();
+        assert_eq!(array.len(), 2);
+        assert_eq!(numbers.clone().into_iter().len(), 2);
+        assert!(numbers.into_iter().eq([Some(7), Some(8)]));
     }
+    let rows: Numbers<'_, i64> = [Some(1), None, Some(3), None].into_iter().collect();
+    assert!(rows.slice(1, 2)?.into_iter().eq([None, Some(3)]));
     Ok(())
 }
 
@@ -199,8 +205,8 @@ fn owned() -> Result<Vec<Array<'static>>, Error> {
         Array::texts(vec![0, 1, 1, 3], b"abc".to_vec())?,
         Array::binary(vec![0_i64, 1, 1, 3], b"abc".to_vec())?,
         Array::fixed_size_binary(3, 1, b"abc".to_vec())?,
-        Array::list(vec![0_i64, 1, 1, 2], words())?.with_validity(present())?,
-        Array::fixed_size_list(3, 0, words())?,
+        Array::lists(vec![0_i64, 1, 1, 2], words())?.with_validity(present())?,
+        Array::fixed_size_lists(3, 0, words())?,
         Array::structs(3, rows)?.with_validity(present())?,
     ])
 }
@@ -210,7 +216,7 @@ fn arrays_that_own_all() -> Result<(), Error> {
     let arrays = owned()?;
     assert_eq!(digits(&is_null(&arrays[0])?), "010");
     assert!(equal(&arrays[0], &arrays[1])?.all());
-    let lent = Array::list(&[0_i64, 1, 1, 2], ["a", "bc"].into_iter().collect())?;
+    let lent = Array::lists(&[0_i64, 1, 1, 2], ["a", "bc"].into_iter().collect())?;
     assert_eq!(digits(&equal(&arrays[7], &lent)?), "101");
     for (array, other) in arrays.iter().zip(owned()?) {
         assert_eq!(array.len(), 3);
@@ -226,7 +232,7 @@ fn validities_of_masks() -> Result<(), Error> {
     assert_eq!(digits(&is_null(&array)?), "0100");
     let inner = Array::numbers(&[0, 1, 2, 3, 4]).slice(1, 4)?;
     assert!(equal(&array, &inner.with_validity(&present)?)?.get(0) == Some(true));
-    let lists = Array::list(&[0, 1, 2, 2, 4], array)?.with_validity(&present)?;
+    let lists = Array::lists(&[0, 1, 2, 2, 4], array)?.with_validity(&present)?;
     assert_eq!(
         format!("{lists:?}"),
         "Array { type: \"+l<i>\", rows: 4, .. }"

@@ -11,7 +11,7 @@ use common::row::{some_row, some_rows, some_type, Int, Row, Type, INTS};
 use dunkelva::{
     compare, compare_number, count_ones, count_zeros, equal, equal_counted, is_null, leading_ones,
     leading_zeros, max, min, min_max, not_equal, reduce_bits, trailing_ones, trailing_zeros,
-    wrapping_sum, Array, BitOperation, Comparison, EqualOptions, Error, Mask,
+    wrapping_sum, Array, BitOperation, Comparison, EqualOptions, Error, Integer, Mask,
 };
 
 const LENGTHS: [usize; 9] = [0, 1, 7, 8, 9, 63, 64, 65, 200];
@@ -241,6 +241,40 @@ fn numbers_are_compared_as_in_rust() {
     });
 }
 
+/// Returns the results of the methods of `Numbers<T>`.
+fn typed<T: Integer>(array: &Array<'_>) -> [Option<i128>; 8] {
+    let rows = array.to_numbers::<T>().unwrap();
+    let (least, greatest) = match rows.min_max().unwrap() {
+        Some((least, greatest)) => (Some(least), Some(greatest)),
+        None => (None, None),
+    };
+    let joined = |it| rows.reduce_bits(it).unwrap();
+    [
+        rows.wrapping_sum().unwrap(),
+        least,
+        greatest,
+        rows.min().unwrap(),
+        rows.max().unwrap(),
+        joined(BitOperation::And),
+        joined(BitOperation::Or),
+        joined(BitOperation::Xor),
+    ]
+    .map(|it| it.map(Into::into))
+}
+
+fn typed_as(int: Int, array: &Array<'_>) -> [Option<i128>; 8] {
+    match (int.bits, int.is_signed) {
+        (8, true) => typed::<i8>(array),
+        (16, true) => typed::<i16>(array),
+        (32, true) => typed::<i32>(array),
+        (64, true) => typed::<i64>(array),
+        (8, false) => typed::<u8>(array),
+        (16, false) => typed::<u16>(array),
+        (32, false) => typed::<u32>(array),
+        _ => typed::<u64>(array),
+    }
+}
+
 #[test]
 fn numbers_are_reduced_as_in_rust() {
     each_case(200, |chance, case| {
@@ -260,22 +294,17 @@ fn numbers_are_reduced_as_in_rust() {
             (Ok(least), Ok(greatest)),
             "{case}"
         );
-        let joined = |join: fn(i128, i128) -> i128| Ok(present.iter().copied().reduce(join));
-        assert_eq!(
-            reduce_bits(&array, BitOperation::And),
-            joined(|l, r| l & r),
-            "{case}"
-        );
-        assert_eq!(
-            reduce_bits(&array, BitOperation::Or),
-            joined(|l, r| l | r),
-            "{case}"
-        );
-        assert_eq!(
-            reduce_bits(&array, BitOperation::Xor),
-            joined(|l, r| l ^ r),
-            "{case}"
-        );
+        let join = |join: fn(i128, i128) -> i128| present.iter().copied().reduce(join);
+        let [and, or, xor] = [join(|l, r| l & r), join(|l, r| l | r), join(|l, r| l ^ r)];
+        for (join, wanted) in [
+            (BitOperation::And, and),
+            (BitOperation::Or, or),
+            (BitOperation::Xor, xor),
+        ] {
+            assert_eq!(reduce_bits(&array, join), Ok(wanted), "{case} {join:?}");
+        }
+        let wanted = [total, least, greatest, least, greatest, and, or, xor];
+        assert_eq!(typed_as(int, &array), wanted, "{case}");
     });
 }
 

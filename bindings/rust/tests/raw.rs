@@ -172,13 +172,13 @@ fn numbers_at_any_address_and_without_a_validity() -> Result<(), Error> {
 #[test]
 fn a_column_of_another_crate_in_lists_and_structs() -> Result<(), Error> {
     let exported = Exported::new(b"i\0", &VALUES, &[0xff], 1, 4); // 1 2 3 4
-    let lists = Array::list(&[0, 1, 4], exported.array()?)?;
-    let own = Array::list(&[0, 1, 4], Array::numbers(&[1, 2, 0, 4]))?;
+    let lists = Array::lists(&[0, 1, 4], exported.array()?)?;
+    let own = Array::lists(&[0, 1, 4], Array::numbers(&[1, 2, 0, 4]))?;
     assert_eq!(digits(&equal(&lists, &own)?), "10");
     let rows = Array::structs(3, [("a", exported.array()?.slice(1, 3)?)])?;
     let own = Array::structs(3, [("a", Array::numbers(&[2, 3, 0]))])?;
     assert_eq!(digits(&equal(&rows, &own)?), "110");
-    let told = Array::list(&[0, 5], exported.array()?)
+    let told = Array::lists(&[0, 5], exported.array()?)
         .unwrap_err()
         .to_string();
     assert_eq!(told, "the offsets end at 5, but there are 4 items");

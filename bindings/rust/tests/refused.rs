@@ -69,7 +69,7 @@ fn offsets_that_lie() {
     assert_eq!(message(Array::texts(&[4_i64], b"abc")), told);
     let told = "the offsets end at 3, but there are 2 items";
     assert_eq!(
-        message(Array::list(&[0, 1, 3], Array::numbers(&[1, 2]))),
+        message(Array::lists(&[0, 1, 3], Array::numbers(&[1, 2]))),
         told
     );
     for offsets in [
@@ -89,7 +89,7 @@ fn offsets_that_lie() {
             Err(Error::BadOffsets)
         );
         assert_eq!(
-            Array::list(&large, Array::nulls(9)).map(drop),
+            Array::lists(&large, Array::nulls(9)).map(drop),
             Err(Error::BadOffsets)
         );
     }
@@ -104,7 +104,7 @@ fn sizes_that_lie() {
     );
     assert!(Array::fixed_size_binary(usize::MAX, 2, b"abcde").is_err());
     assert_eq!(
-        message(Array::fixed_size_list(
+        message(Array::fixed_size_lists(
             2,
             3,
             Array::numbers(&[1, 2, 3, 4, 5])
@@ -140,7 +140,7 @@ fn windows_outside() {
     }
     assert_eq!(
         message(array.slice(2, 2)),
-        "there are no 2 rows from row 2 on, of 3"
+        "2 rows from row 2 on were asked for, and the array has 3"
     );
 }
 
@@ -240,7 +240,7 @@ fn types_that_differ() {
     let words: Array<'_> = ["a"].into_iter().collect();
     let keys = Array::dictionary(&[0], words.clone()).unwrap();
     differ(&small, &keys, "i", "i<u>");
-    let list = |items| Array::list(&[0, 1], items).unwrap();
+    let list = |items| Array::lists(&[0, 1], items).unwrap();
     differ(
         &list(small.clone()),
         &list(keys.clone()),
@@ -274,7 +274,7 @@ fn types_are_told_with_their_names_in_arrow() {
         told(texts, large),
         "the types differ: u (Utf8) and U (LargeUtf8)"
     );
-    let lists = Array::list(&[0, 1], Array::numbers(&[1_u8]));
+    let lists = Array::lists(&[0, 1], Array::numbers(&[1_u8]));
     let rows = [("a b", Array::nulls(1)), ("c", Array::numbers(&[1_i64]))];
     assert_eq!(
         told(lists, Array::structs(1, rows)),
@@ -332,7 +332,7 @@ fn floats_are_refused_with_what_to_call() {
     assert_eq!(equal(&number, &share), unsupported("f"));
     assert_eq!(equal(&share, &number), unsupported("f"));
     told(&share);
-    told(&Array::list(&[0, 1], share.clone()).unwrap());
+    told(&Array::lists(&[0, 1], share.clone()).unwrap());
     let rows = [("id", Array::numbers(&[1])), ("share", share)];
     told(&Array::structs(1, rows).unwrap());
 }
@@ -352,10 +352,10 @@ fn precisions_of_decimals() {
 fn types_that_are_too_many() {
     let mut array = Array::numbers(&[1]);
     for _ in 1..64 {
-        array = Array::list(&[0, 1], array).unwrap();
+        array = Array::lists(&[0, 1], array).unwrap();
     }
     assert!(equal(&array, &array).unwrap().all());
-    assert_eq!(Array::list(&[0, 1], array).map(drop), Err(Error::TooDeep));
+    assert_eq!(Array::lists(&[0, 1], array).map(drop), Err(Error::TooDeep));
     let mut array = Array::numbers(&[1]);
     for _ in 0..19 {
         array = Array::structs(1, [("a", array.clone()), ("b", array)]).unwrap();

@@ -4,19 +4,13 @@ mod common;
 
 use common::digits;
 use dunkelva::{
-    compare, compare_number, count_ones, equal, equal_counted, equal_with, is_null, leading_zeros,
-    max, min, min_max, not_equal, reduce_bits, trailing_ones, version, wrapping_sum, Array,
-    BitOperation, Bitmap, Comparison, EqualOptions, Error,
+    compare, compare_number, count_ones, equal, equal_counted, equal_with, format, is_null,
+    leading_zeros, library_version, max, min, min_max, not_equal, reduce_bits, trailing_ones,
+    wrapping_sum, Array, BitOperation, Bitmap, Comparison, EqualOptions, Error, Mask, Numbers,
 };
 
-const FLOATS: EqualOptions = EqualOptions {
-    floats_by_bits: true,
-    check_texts: false,
-};
-const CHECKED: EqualOptions = EqualOptions {
-    floats_by_bits: false,
-    check_texts: true,
-};
+const FLOATS: EqualOptions = EqualOptions::new().floats_by_bits(true);
+const CHECKED: EqualOptions = EqualOptions::new().check_texts(true);
 
 fn same(left: &Array<'_>, right: &Array<'_>) -> Result<String, Error> {
     equal(left, right).map(|it| digits(&it))
@@ -185,19 +179,19 @@ fn floats_are_compared_by_their_bits_if_asked() -> Result<(), Error> {
 #[test]
 fn lists() -> Result<(), Error> {
     // [1, 2] [] null [3] and [1, 2] null null [4]
-    let left = Array::list(&[0, 2, 2, 2, 3], Array::numbers(&[1, 2, 3]))?
+    let left = Array::lists(&[0, 2, 2, 2, 3], Array::numbers(&[1, 2, 3]))?
         .with_validity(Bitmap::new(&[0b1011], 0, 4)?)?;
-    let right = Array::list(&[1, 3, 3, 4, 5], Array::numbers(&[0, 1, 2, 9, 4]))?
+    let right = Array::lists(&[1, 3, 3, 4, 5], Array::numbers(&[0, 1, 2, 9, 4]))?
         .with_validity(Bitmap::new(&[0b1001], 0, 4)?)?;
     assert_eq!(same(&left, &right)?, "1010");
     assert_eq!(same(&left.slice(1, 2)?, &right.slice(1, 2)?)?, "01");
-    let large = Array::list(&[0_i64, 1, 3], Array::numbers(&[1, 2, 3]))?;
+    let large = Array::lists(&[0_i64, 1, 3], Array::numbers(&[1, 2, 3]))?;
     assert_eq!(same(&large, &large)?, "11");
     assert!(have_other_types(&large, &left.slice(0, 2)?));
     // [1, 2] [3, 4] and [1, 2] [3, null]
-    let whole = Array::fixed_size_list(2, 2, Array::numbers(&[1, 2, 3, 4]))?;
+    let whole = Array::fixed_size_lists(2, 2, Array::numbers(&[1, 2, 3, 4]))?;
     let items: Array<'_> = [Some(1), Some(2), Some(3), None].into_iter().collect();
-    let other = Array::fixed_size_list(2, 2, items)?;
+    let other = Array::fixed_size_lists(2, 2, items)?;
     assert_eq!(same(&whole, &other)?, "10");
     assert_eq!(same(&whole.slice(1, 1)?, &other.slice(0, 1)?)?, "0");
     Ok(())
@@ -243,8 +237,8 @@ fn dictionaries() -> Result<(), Error> {
 
 #[test]
 fn comparisons_are_counted() -> Result<(), Error> {
-    let left = Array::list(&[0, 2, 3], Array::numbers(&[1, 2, 3]))?;
-    let right = Array::list(&[0, 2, 3], Array::numbers(&[1, 5, 3]))?;
+    let left = Array::lists(&[0, 2, 3], Array::numbers(&[1, 2, 3]))?;
+    let right = Array::lists(&[0, 2, 3], Array::numbers(&[1, 5, 3]))?;
     let (found, comparisons) = equal_counted(&left, &right, EqualOptions::default())?;
     assert_eq!((digits(&found).as_str(), comparisons), ("01", 3));
     Ok(())
@@ -278,7 +272,7 @@ fn comparisons_of_numbers() -> Result<(), Error> {
             "{test:?}"
         );
     }
-    let days = Array::numbers(&[19_000, 19_001]).with_format("tdD")?;
+    let days = Array::numbers(&[19_000, 19_001]).with_format(format::DATE32)?;
     assert_eq!(
         digits(&compare_number(&days, Comparison::Less, 19_001)?),
         "10"
@@ -315,6 +309,51 @@ fn reductions() -> Result<(), Error> {
 }
 
 #[test]
+fn reductions_of_numbers_have_their_type() -> Result<(), Error> {
+    let rows: Numbers<'_, i8> = [Some(100), None, Some(100), Some(-3)].into_iter().collect();
+    assert_eq!(rows.wrapping_sum()?, Some(-59_i8));
+    assert_eq!(rows.min_max()?, Some((-3_i8, 100)));
+    assert_eq!((rows.min()?, rows.max()?), (Some(-3_i8), Some(100)));
+    assert_eq!(rows.reduce_bits(BitOperation::And)?, Some(100_i8));
+    let greatest = Numbers::from(&[u64::MAX, 0]);
+    assert_eq!(greatest.wrapping_sum()?, Some(u64::MAX));
+    assert_eq!(greatest.min_max()?, Some((0, u64::MAX)));
+    let days = Numbers::from(&[19_001_i32, 19_000]).with_format(format::DATE32)?;
+    assert_eq!(days.min()?, Some(19_000_i32));
+    let none: Numbers<'_, i64> = [None, None].into_iter().collect();
+    assert_eq!((none.min_max()?, none.wrapping_sum()?), (None, None));
+    Ok(())
+}
+
+#[test]
+fn numbers_beside_arrays_have_any_integer_type() -> Result<(), Error> {
+    let rows = Array::numbers(&[1_u8, 2, 3]);
+    let below = |test: Result<Mask, Error>| test.map(|it| digits(&it));
+    assert_eq!(
+        below(compare_number(&rows, Comparison::Less, 2_usize))?,
+        "100"
+    );
+    assert_eq!(
+        below(compare_number(&rows, Comparison::Less, 2_isize))?,
+        "100"
+    );
+    assert_eq!(
+        below(compare_number(&rows, Comparison::Less, 2_u64))?,
+        "100"
+    );
+    assert_eq!(
+        below(compare_number(&rows, Comparison::Less, 2_i128))?,
+        "100"
+    );
+    let most = compare_number(&rows, Comparison::Less, usize::MAX).unwrap_err();
+    assert_eq!(
+        most.to_string(),
+        "the type C (UInt8) has no number 18446744073709551615"
+    );
+    Ok(())
+}
+
+#[test]
 fn counts_of_bits() -> Result<(), Error> {
     let rows: Array<'_> = [Some(0b0001_0111_u8), None, Some(0)].into_iter().collect();
     assert!(count_ones(&rows)?.iter().eq([Some(4), None, Some(0)]));
@@ -328,7 +367,7 @@ fn no_rows() -> Result<(), Error> {
     for array in [
         Array::numbers::<i32>(&[]),
         Array::texts::<i64>(&[], b"")?,
-        Array::list::<i32>(&[], Array::numbers(&[1]))?,
+        Array::lists::<i32>(&[], Array::numbers(&[1]))?,
         Array::nulls(0),
         Array::booleans(Bitmap::new(&[], 0, 0)?),
         Array::dictionary::<u8>(&[], Array::numbers(&[1]))?,
@@ -364,5 +403,5 @@ fn masks() -> Result<(), Error> {
 
 #[test]
 fn the_version_is_that_of_the_package() {
-    assert_eq!(version(), env!("CARGO_PKG_VERSION"));
+    assert_eq!(library_version(), env!("CARGO_PKG_VERSION"));
 }

@@ -258,10 +258,10 @@ impl Store {
                 }
             }
             Store::List(offsets, items) => {
-                with_offsets!(offsets, it => Array::list(it, items.array()).unwrap())
+                with_offsets!(offsets, it => Array::lists(it, items.array()).unwrap())
             }
             Store::SizedList(width, items) => {
-                Array::fixed_size_list(rows, *width, items.array()).unwrap()
+                Array::fixed_size_lists(rows, *width, items.array()).unwrap()
             }
             Store::Struct(fields) => {
                 let fields = fields.iter().map(|(name, it)| (name.as_str(), it.array()));
