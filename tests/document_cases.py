@@ -5,6 +5,7 @@ WIDE = "1" + "0" * 30
 NO_JSON, TWICE = "not valid JSON", "an object has a name twice"
 NO_OBJECT, NO_ID = "not a JSON object", 'the key "id" is missing'
 TOO_WIDE = "an exponent has more than 30 digits"
+BEHIND = ": the document ends before this, and each has a line of its own"
 
 
 def nested(depth, inside=b""):
@@ -320,14 +321,19 @@ FILES = (
      "- row 2  left.ndjson line 2\n0 changed, 1 removed, 0 added, 1 the same."),
     ([], b'{"a":1}\n{"a":2}\n', b'{"a":2}\n{"a":1}\n', 1,
      "~ row 1  a 1 -> 2\n~ row 2  a 2 -> 1\n2 changed, 0 removed, 0 added, 0 the same."),
-    ([], b"\n", b"", 2, "left.ndjson: line 1, column 1: not valid JSON: the line is empty"),
-    ([], b"{}\n\n", b"{}\n", 2, "left.ndjson: line 2, column 1: not valid JSON: the line is empty"),
+    ([], b"\n", b"", 2,
+     "left.ndjson: line 1, column 1: not valid JSON: the line is empty: --skip-bad passes it over"),
+    ([], b"{}\n\n", b"{}\n", 2,
+     "left.ndjson: line 2, column 1: not valid JSON: the line is empty: --skip-bad passes it over"),
     ([], b"{}\n", b"{}\n\n{}\n", 2,
-     "right.ndjson: line 2, column 1: not valid JSON: the line is empty"),
+     "right.ndjson: line 2, column 1: not valid JSON: the line is empty: --skip-bad passes it "
+     "over"),
     ([], b"{}\n", b"{}\r\n\r\n", 2,
-     "right.ndjson: line 2, column 2: not valid JSON: the line is empty"),
+     "right.ndjson: line 2, column 2: not valid JSON: the line is empty: --skip-bad passes it "
+     "over"),
     ([], b"{}\n", b"{}\n \t\r\n", 2,
-     "right.ndjson: line 2, column 4: not valid JSON: the line is empty"),
+     "right.ndjson: line 2, column 4: not valid JSON: the line is empty: --skip-bad passes it "
+     "over"),
     ([], b"{}\n", b"{}\n\x0b\n", 2, "right.ndjson: line 2, column 1: not valid JSON"),
     # numbers that other programs write
     ([], b'{"a":NaN}\n', b"", 2, "left.ndjson: line 1, column 6: not valid JSON: JSON has no NaN"),
@@ -336,6 +342,42 @@ FILES = (
     ([], b"{}\n", b'{"a":-Infinity}\n', 2,
      "right.ndjson: line 1, column 6: not valid JSON: JSON has no -Infinity"),
     ([], b"{}\n", b'{"a":nan}\n', 2, "right.ndjson: line 1, column 6: not valid JSON"),
+    # slips of hands and of other programs
+    ([], b"{'a':1}\n", b"", 2,
+     "left.ndjson: line 1, column 2: not valid JSON: JSON has double quotes, not single ones"),
+    ([], b"{}\n", b'{"a":True}\n', 2,
+     "right.ndjson: line 1, column 6: not valid JSON: JSON has true, not True"),
+    ([], b"{}\n", b'{"a":[1, None]}\n', 2,
+     "right.ndjson: line 1, column 10: not valid JSON: JSON has null, not None"),
+    ([], b'{"a":1,}\n', b"", 2,
+     "left.ndjson: line 1, column 8: not valid JSON: no comma may stand before } or ]"),
+    ([], b'{"a":[1, ]}\n', b"", 2,
+     "left.ndjson: line 1, column 10: not valid JSON: no comma may stand before } or ]"),
+    ([], b'{"a":1}{"a":2}\n', b"", 2, "left.ndjson: line 1, column 8: not valid JSON" + BEHIND),
+    ([], b'{"a":1} # one\n', b"", 2, "left.ndjson: line 1, column 9: not valid JSON" + BEHIND),
+    ([], b"{}\n{id:1}\n", b"", 2,
+     "left.ndjson: line 2, column 2: not valid JSON: a name stands in double quotes"),
+    ([], b'{}\n{"a":1, b_2 : 1}\n', b"", 2,
+     "left.ndjson: line 2, column 9: not valid JSON: a name stands in double quotes"),
+    ([], b"{}\n// one\n", b"", 2,
+     "left.ndjson: line 2, column 1: not valid JSON: JSON has no comments"),
+    ([], b'{"a":"b}\n', b"", 2,
+     "left.ndjson: line 1, column 6: not valid JSON: the string never ends"),
+    ([], b'{}\n{"a":1,\r\n', b"", 2,
+     "left.ndjson: line 2, column 9: not valid JSON: the line ends before the document does"),
+    ([], b'{}\n{"a":"caf\xe9"}\n', b"", 2,
+     "left.ndjson: line 2, column 10: not valid JSON: the line is not UTF-8: convert the file, as "
+     "in "
+     "<(iconv -f LATIN1 -t UTF-8 FILE)"),
+    # paths of keys that are nearly those of parts
+    (["--key", "order.idd"], b'{"order":{"day":1,"id":1},"n":1}\n', b"", 2,
+     'left.ndjson: line 1: the key "order.idd" is missing: did you mean "order.id"? The document '
+     'has "order", "n"'),
+    (["--key", "Order.ID"], b'{"order":{"id":1}}\n', b"", 2,
+     'left.ndjson: line 1: the key "Order.ID" is missing: did you mean "order.id"? The document '
+     'has "order"'),
+    (["--key", "order.day"], b'{"order":{"id":1}}\n', b"", 2,
+     'left.ndjson: line 1: the key "order.day" is missing: the document has "order"'),
     # files that are no lines of documents
     ([], b'[{"a":1},{"a":2}]\n', b"", 2,
      "left.ndjson: line 1, column 1: not a JSON object: the file begins with a list: "
@@ -356,12 +398,13 @@ FILES = (
     ([], b"\x1f\x8b\x08\0", b"{}\n", 2,
      "left.ndjson: it is compressed by gzip: unpack it, as in <(zcat FILE)"),
     ([], b"x\n", b"\x1f\x8b\x08\0", 2, "left.ndjson: line 1, column 1: not valid JSON"),
-    ([], b"{}\r{}\n", b"", 2, "left.ndjson: line 1, column 4: not valid JSON"),
-    ([], b'{"a":\n1}\n', b"", 2, "left.ndjson: line 1, column 6: not valid JSON"),
+    ([], b"{}\r{}\n", b"", 2, "left.ndjson: line 1, column 4: not valid JSON" + BEHIND),
+    ([], b'{"a":\n1}\n', b"", 2,
+     "left.ndjson: line 1, column 6: not valid JSON: the line ends before the document does"),
     ([], b"\xef\xbb\xbf", b"", 2,
      "left.ndjson: line 1, column 1: not valid JSON: the file begins with a byte order mark: "
      "remove it, as tail -c +4 does"),
-    ([], b"{}\n{}\0", b"", 2, "left.ndjson: line 2, column 3: not valid JSON"),
+    ([], b"{}\n{}\0", b"", 2, "left.ndjson: line 2, column 3: not valid JSON" + BEHIND),
     (["--key", "id"], b'{"id":1.0,"a":1}\n{"id":"1","a":2}\n{"id":null,"a":3}\n',
      b'{"id":null,"a":3}\n{"id":"1","a":0}\n{"id":1e0,"a":1}', 1,
      '~ id="1"  a 2 -> 0\n1 changed, 0 removed, 0 added, 2 the same.'),
@@ -413,9 +456,9 @@ FILES = (
      "+ id=1  right.ndjson line 2\n+ id=2  right.ndjson line 4\n"
      "0 changed, 0 removed, 2 added, 2 the same."),
     (["--unique", "--key", "id"], b'{"id":1}\n{"id":2}\n', b'{"id":2}\n{"id":1}\n{"id":2}\n', 2,
-     "right.ndjson: lines 1 and 3 have the same key"),
+     "right.ndjson: lines 1 and 3 have the same key: 2"),
     (["--key", "id"], b'{"id":1}\n', b'{"id":1}\n{"id":1}x\n', 2,
-     "right.ndjson: line 2, column 9: not valid JSON"),
+     "right.ndjson: line 2, column 9: not valid JSON" + BEHIND),
     (["--key", "id"], b'{"id":2,"a":1}\n{"id":5}\n{"id":1,"a":1}\n{"id":4}\n',
      b'{"id":7}\n{"id":1,"a":2}\n{"id":6}\n{"id":2,"a":2}\n', 1,
      "~ id=2  a 1 -> 2\n~ id=1  a 1 -> 2\n- id=5  left.ndjson line 2\n- id=4  left.ndjson line 4\n"
@@ -497,7 +540,7 @@ FILES = (
      '{"kind":"removed","key":{"id":null},"line":1}\n'
      '{"kind":"counts","changed":0,"removed":1,"added":0,"same":0,"not_shown":0}'),
     (["--no-key-is-null", "--unique", "--key", "id"], b'{}\n{"id":1}\n{"id":null}\n', b"", 2,
-     "left.ndjson: lines 1 and 3 have the same key"),
+     "left.ndjson: lines 1 and 3 have the same key: null"),
     (["--no-key-is-null", "--key", "id"], b"{}\n[]\n", b"", 2,
      "left.ndjson: line 2, column 1: not a JSON object"),
     (["--no-key-is-null"], b"{}\n", b"{}\n", 0, "0 changed, 0 removed, 0 added, 1 the same."),
@@ -533,7 +576,7 @@ FILES = (
      "~ id=null  id missing -> null\n1 changed, 0 removed, 0 added, 0 the same.\n"
      "Skipped 1 line of right.ndjson (line 1)."),
     (["--skip-bad", "--key", "id", "--unique"], b'{"id":1}\n[\n{"id":1}\n', b"", 2,
-     "left.ndjson: lines 1 and 3 have the same key"),
+     "left.ndjson: lines 1 and 3 have the same key: 1"),
     (["--skip-bad", "--key", "id", "--limit", "1", "--color", "always"],
      b'[]\n{"id":1}\n{"id":2}\n', b"", 1,
      "\x1b[31m- id=1  left.ndjson line 2\x1b[0m\n.. and 1 more\n"
@@ -551,7 +594,7 @@ FILES = (
     (["--unique", "--key", "id"], b'{"id":1}\n{"id":2}\n', b'{"id":2}\n{"id":1}\n', 0,
      "0 changed, 0 removed, 0 added, 2 the same."),
     (["--unique", "--key", "id"], b'{"id":1}\n{"id":2}\n{"id":1.0}\n', b"", 2,
-     "left.ndjson: lines 1 and 3 have the same key"),
+     "left.ndjson: lines 1 and 3 have the same key: 1"),
     (["--unique", "--key", "id"], b'{"id":1}\n',
      b'{"id":{"a":1,"b":2}}\n{"id":{"b":2,"a":1}}\n{"id":1}\n{"id":1}', 2,
      "right.ndjson: lines 1 and 2 have the same key"),
@@ -633,6 +676,9 @@ TROUBLES = (
         "", ".", "id.", "id..a", "id[", "id[ ]", "id[a]", "id[-1]", "id]", "[]id", "a,", "a,,b",
         '."id', '."id"a', '."\\ud800"') for option in ("--only", "--ignore")),
     (["good.ndjson"], "RIGHT"),
+    (["--key", "items[].sku", "good.ndjson", "good.ndjson"],
+     '--key takes paths such as order.id or items[0].sku, not "items[].sku": a key path names one '
+     'part, so no []\n'),
     (["good.ndjson", b"\xff.ndjson"], "invalid data"),
     *((["--key", path, "good.ndjson", "good.ndjson"], "") for path in (
         "", ".", "id.", "..id", "id..a", "id[", "id[]", "id[a]", "id[-1]", "id]", '."id', '."id"a',

@@ -9,6 +9,7 @@ import collections
 import dataclasses
 import decimal
 import json
+import os
 import re
 
 import random_tables
@@ -322,13 +323,85 @@ def cut_name(name):
     return table_reports.in_quotes(start) + (".." if start != name else "")
 
 
-def members_hint(line):
+def are_near(one, other):
+    """Returns whether two names differ in a few bytes at one place, their case aside."""
+    one, other = (name.encode().lower().replace(b"_", b"-") for name in (one, other))
+    start = len(os.path.commonprefix([one, other]))
+    most = min(len(one), len(other)) - start
+    end = len(os.path.commonprefix([one[::-1][:most], other[::-1][:most]]))
+    return max(len(one), len(other)) - start - end <= 2 and start + end >= 2
+
+
+def distance(one, other):
+    """Returns how far a name is from another one, or None where it is not near."""
+    if one == other:
+        return 0
+    if one.encode().lower().replace(b"_", b"-") == other.encode().lower().replace(b"_", b"-"):
+        return 1
+    return 2 if are_near(one, other) else None
+
+
+def near_path(value, names):
+    """Returns the names of a part of a value that are the nearest to these, or None."""
+    if not names:
+        return []
+    if not isinstance(value, Object):
+        return None
+    near = [(distance(name, names[0]), at) for at, (name, _) in enumerate(value.members)]
+    near = sorted(it for it in near if it[0] is not None)
+    if not near:
+        return None
+    name, child = value.members[near[0][1]]
+    if not all(re.fullmatch(r"[A-Za-z0-9_-]+", it) for it in (name, names[0])):
+        return None
+    rest = near_path(child, names[1:])
+    return None if rest is None else [name, *rest]
+
+
+def members_hint(line, key):
     """Returns the hint after what is said of a key that a document lacks."""
-    names = [name for name, _ in tree_of(line)[0].members]
+    document = tree_of(line)[0]
+    names = [name for name, _ in document.members]
     if not names:
         return ""
     more = f" and {len(names) - MOST_NAMES} more" if len(names) > MOST_NAMES else ""
-    return f": the document has {', '.join(map(cut_name, names[:MOST_NAMES]))}{more}"
+    listed = f"has {', '.join(map(cut_name, names[:MOST_NAMES]))}{more}"
+    near = near_path(document, key.removeprefix(".").split("."))
+    if near is None:
+        return f": the document {listed}"
+    return f": did you mean {table_reports.in_quotes('.'.join(near))}? The document {listed}"
+
+
+# what other formats have where JSON has a value, each with its hint
+STARTS = {
+    "NaN": "JSON has no NaN",
+    "Infinity": "JSON has no Infinity",
+    "-Infinity": "JSON has no -Infinity",
+    "True": "JSON has true, not True",
+    "False": "JSON has false, not False",
+    "None": "JSON has null, not None",
+    "undefined": "JSON has null, not undefined",
+    "'": "JSON has double quotes, not single ones",
+    "#": "JSON has no comments",
+    "//": "JSON has no comments",
+    "/*": "JSON has no comments",
+}
+
+
+def slip_of(before, rest):
+    """Returns the hint at a slip between two parts of a line, or an empty text."""
+    if before[-1:] in ("{", ",") and re.match(r"[A-Za-z0-9_]+[ \t\r]*:", rest):
+        return ": a name stands in double quotes"
+    value, is_json = tree_of(before.encode()) if before.endswith("}") else (None, False)
+    if is_json and isinstance(value, Object):
+        return ": the document ends before this, and each has a line of its own"
+    if before.endswith(",") and rest[:1] in ("}", "]"):
+        return ": no comma may stand before } or ]"
+    if re.fullmatch(r'"(?:\\.|[^"\\])*\\?', rest, re.S):
+        return ": the string never ends"
+    if not rest:
+        return ": the line ends before the document does"
+    return next((f": {hint}" for start, hint in STARTS.items() if rest.startswith(start)), "")
 
 
 def hint_of(number, line, what):
@@ -337,9 +410,12 @@ def hint_of(number, line, what):
     try:
         text = line.decode()
     except UnicodeDecodeError:
-        return ""
+        return (
+            ": the line is not UTF-8: convert the file, as in <(iconv -f LATIN1 -t UTF-8 FILE)"
+        )
     if what.endswith(" is missing") and isinstance(tree_of(line)[0], Object):
-        return members_hint(line)
+        key = what.removeprefix("the key ").removesuffix(" is missing")[1:-1]
+        return members_hint(line, key)
     if what not in (NO_JSON, NO_OBJECT):
         return ""
     bare = text.strip(" \t\r")
@@ -350,9 +426,9 @@ def hint_of(number, line, what):
     if number == 1 and bare == "{":
         return ": the file has documents of many lines: jq -c . makes a line of each"
     if not bare:
-        return ": the line is empty"
-    word = re.match("-?Infinity|NaN", text[place_of(text, what) :])
-    return f": JSON has no {word[0]}" if word else ""
+        return ": the line is empty: --skip-bad passes it over"
+    place = place_of(text, what)
+    return slip_of(text[:place].rstrip(" \t\r"), text[place:])
 
 
 # ---- reading
@@ -700,6 +776,21 @@ def named_files(options):
     return ["-" if side == options["piped"] else file for side, file in enumerate(options["files"])]
 
 
+def key_part(part):
+    """Returns a part of a key as messages write it, or None of lists, objects and long numbers."""
+    if part is MISSING or part is None or isinstance(part, bool):
+        return "null" if part is MISSING else json.dumps(part)
+    if isinstance(part, Number):
+        return part.text if len(part.text) <= MOST_BYTES else None
+    return cut_name(part) if isinstance(part, str) else None
+
+
+def key_hint(file, document, options):
+    """Returns the hint at a key that comes twice, for a file that can be read again."""
+    shown = [key_part(part_at(document, steps_of(key))) for key in options["keys"]]
+    return "" if file == "-" or None in shown else f": {', '.join(shown)}"
+
+
 def key_fault(sides, options):
     """Returns what is said of the first document whose key an earlier one of its file has, or
     None."""
@@ -708,9 +799,9 @@ def key_fault(sides, options):
         for i, key in enumerate(keys_of(side, options)):
             first = seen.setdefault(key, i)
             if first < i:
-                return (
-                    f"{file}: lines {side.numbers[first]} and {side.numbers[i]} have the same key"
-                )
+                lines = f"lines {side.numbers[first]} and {side.numbers[i]}"
+                hint = key_hint(file, side[first], options)
+                return f"{file}: {lines} have the same key{hint}"
     return None
 
 

@@ -115,23 +115,24 @@ Table = collections.namedtuple("Table", "names rows lines")
 
 def written(names, rows, options, chance):
     """Returns a table, and the bytes that it is written as."""
-    end = chance.choice(("\n", "\r\n"))
+    ends = chance.choice((("\n",), ("\r\n",), ("\n", "\r\n")))
     out, lines = io.StringIO(newline=""), []
     quoting = chance.choice((csv.QUOTE_MINIMAL, csv.QUOTE_ALL))
-    writer = csv.writer(
-        out, lineterminator=end, quoting=quoting, delimiter=options["delimiter"] or ","
-    )
+    delimiter = options["delimiter"] or ","
+    writers = [
+        csv.writer(out, lineterminator=end, quoting=quoting, delimiter=delimiter) for end in ends
+    ]
     records = [names, *rows]
     has_gaps = chance.random() < 0.2
-    for i, record in enumerate(records):
-        # empty lines are no records; before the first one CR LF makes later lines one too low
-        if has_gaps and chance.random() < 0.3 and (i > 0 or end == "\n"):
-            out.write(end * chance.randint(1, 3))
+    for record in records:
+        # empty lines are no records
+        if has_gaps and chance.random() < 0.3:
+            out.write("".join(chance.choices(ends, k=chance.randint(1, 3))))
         lines.append(out.getvalue().count("\n") + 1)
-        writer.writerow(record)
+        chance.choice(writers).writerow(record)
     text = out.getvalue()
     if chance.random() < 0.2:
-        text = text.removesuffix(end)
+        text = text.removesuffix("\n").removesuffix("\r")
     mark = b"\xef\xbb\xbf" if chance.random() < 0.1 else b""
     return table_of(records, lines, options["header"]), mark + text.encode("latin-1")
 

@@ -18,6 +18,8 @@ Comparison = collections.namedtuple(
 # a number as RFC 8259 writes it: what stands before its exponent, and the exponent
 NUMBER = re.compile(r"(-?(?:0|[1-9][0-9]*)(?:\.[0-9]+)?)(?:[eE]([+-]?[0-9]+))?")
 MOST_DIGITS = 30
+# no message has more bytes of a cell than this
+MOST_BYTES = 60
 
 
 def worth(cell):
@@ -301,18 +303,37 @@ def wide_number(pair):
     return None
 
 
+def cut_cell(cell):
+    """Returns a cell in quotes, cut if it is long, as messages write it."""
+    content = cell.encode("latin-1")
+    try:
+        content.decode()
+    except UnicodeDecodeError:
+        return "one that is not UTF-8"
+    start = content[:MOST_BYTES].decode(errors="ignore").encode().decode("latin-1")
+    return in_quotes(start, "latin-1") + (".." if len(start) < len(content) else "")
+
+
+def key_hint(file, row, keys):
+    """Returns the hint at a key that comes twice, for a file that can be read again."""
+    return "" if file == "-" else ": " + ", ".join(cut_cell(row[k]) for k in keys)
+
+
 def key_twice(pair):
     """Returns what is said of the first row whose key an earlier row of its file has, or None."""
     if not pair.options["unique"]:
         return None
     found = comparison_of(pair)
     files = random_tables.named_files(pair.options)
-    for file, table, rows in zip(files, (pair.left, pair.right), found.compared):
+    sides = zip(files, (pair.left, pair.right), found.compared, found.sides)
+    for file, table, rows, whole in sides:
         seen = {}
         for i, row in enumerate(rows):
             first = seen.setdefault(tuple(row[k] for k in found.keys), i)
             if first < i:
-                return f"{file}: lines {table.lines[first]} and {table.lines[i]} have the same key"
+                lines = f"lines {table.lines[first]} and {table.lines[i]}"
+                hint = key_hint(file, whole[first], found.keys)
+                return f"{file}: {lines} have the same key{hint}"
     return None
 
 
@@ -343,49 +364,23 @@ def choice_fault(pair):
             if relative == is_relative and name not in left and name not in right:
                 return f"--{option}: neither file has a column named {in_quotes(name, 'latin-1')}"
     found = comparison_of(pair)
-    return (
-        "no column is left to compare"
-        if (left or right) and not found.names and not found.lone
-        else None
-    )
+    lone = [name for name in {*left} ^ {*right} if is_chosen(name, options)]
+    is_key_alone = options["common"] and lone and len(found.names) == len(options["keys"])
+    is_nothing_left = (left or right) and not found.names and not found.lone
+    return "no column is left to compare" if is_nothing_left or is_key_alone else None
 
 
-LINES = re.compile(rb"(?m)^((?:\x1b\[3\dm)?[-+] .* line )\d+(?=(?:\x1b\[0m)?$)")
-
-
-def without_lines(text):
-    """Returns a report as lines to read without the numbers of lines."""
-    return LINES.sub(rb"\1N", text)
-
-
-def members_without_lines(members):
-    """Returns the members of an object without the numbers of lines."""
-    return tuple(it for it in members if it[0] not in ("line", "left_line", "right_line"))
-
-
-def is_report(printed, pair, has_lines):
-    """Returns whether this is the report of two tables, with its numbers of lines if these are
-    known."""
+def is_report(printed, pair):
+    """Returns whether this is the report of two tables."""
     if not pair.options["json"]:
-        wanted_text = text_report(pair)
-        return (
-            printed == wanted_text
-            or not has_lines
-            and without_lines(printed) == without_lines(wanted_text)
-        )
+        return printed == text_report(pair)
     try:
-        objects = objects_of(printed)
+        return objects_of(printed) == json_objects(pair)
     except ValueError:
         return False
-    wanted_objects = json_objects(pair)
-    if not has_lines:
-        objects, wanted_objects = (
-            [members_without_lines(it) for it in each] for each in (objects, wanted_objects)
-        )
-    return objects == wanted_objects
 
 
-def is_right(ran, pair, has_lines=True):
+def is_right(ran, pair):
     """Returns whether a run over two tables that can be compared did as it has to."""
     said = choice_fault(pair)
     if said:
@@ -398,14 +393,12 @@ def is_right(ran, pair, has_lines=True):
     if wide_number(pair):
         return ran.status == 2 and not ran.printed and b"more than 30 digits" in ran.said
     said = key_twice(pair)
-    if said and has_lines:
-        return ran == (2, b"", f"dunkelva: {said}\n".encode("latin-1"))
     if said:
-        return ran.status == 2 and ran.said.endswith(b" have the same key\n") and not ran.printed
+        return ran == (2, b"", f"dunkelva: {said}\n".encode("latin-1"))
     return (
         not ran.said
         and ran.status == status_of(comparison_of(pair))
-        and is_report(ran.printed, pair, has_lines)
+        and is_report(ran.printed, pair)
     )
 
 

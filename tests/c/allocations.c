@@ -227,16 +227,12 @@ int main(void) {
   for (size_t shift = 0; shift < 2; shift++) {
     struct made *tree = column(shift);
     struct made *flat = numbers(shift);
-    if (!NUMBERS_ONLY) {
-      try_call("equal", call_equal, tree);
-    }
+    try_call("equal", call_equal, tree);
     try_call("equal numbers", call_equal, flat);
     try_call("compare", call_compare, flat);
     try_call("compare_number", call_compare_number, flat);
     try_call("is_null", call_is_null, tree);
-    if (!NUMBERS_ONLY) {
-      try_call("is_null of keys", call_is_null, dictionary());
-    }
+    try_call("is_null of keys", call_is_null, dictionary());
     try_call("sum", call_sum, flat);
     try_call("min_max", call_min_max, flat);
     try_call("bits", call_bits, flat);

@@ -7,11 +7,6 @@
 #include <stdlib.h>
 
 /* Says whether the library compares numbers alone. */
-#ifdef DUNKELVA_NUMBERS_ONLY
-enum { NUMBERS_ONLY = 1 };
-#else
-enum { NUMBERS_ONLY = 0 };
-#endif
 
 /* A column with up to four others inside it. */
 struct made {

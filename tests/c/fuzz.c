@@ -35,7 +35,6 @@ static void require(bool holds, const char *what) {
   }
 }
 
-#ifndef DUNKELVA_NUMBERS_ONLY
 int32_t __wrap_dunkelva_parts_equal(const struct part *left, size_t left_len,
                                     const struct part *right, size_t right_len, uint64_t *out,
                                     size_t out_len, uint64_t *comparisons, size_t comparisons_len) {
@@ -69,7 +68,6 @@ int32_t __wrap_dunkelva_parts_are_null(const struct part *parts, size_t len, uin
   return status;
 }
 
-#endif
 
 int32_t __wrap_dunkelva_parts_equal_lent(const struct part *left, const struct part *right,
                                          uint64_t *out, size_t out_len) {

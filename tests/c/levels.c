@@ -116,9 +116,7 @@ int main(int words, char **word) {
   try_reductions(&column->type, &column->array);
   try_arithmetic(&column->type, &column->array);
   try_states(&column->type, &column->array);
-  if (!NUMBERS_ONLY) {
-    try_trees(column);
-  }
+  try_trees(column);
   try_processors();
   printf("%d passed, %d failed\n", passed, failed);
   return failed > 0;

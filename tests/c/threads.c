@@ -38,10 +38,8 @@ int main(void) {
   struct made *moved = make("i", ROWS, 2, NULL, odd + 1, NULL);
   left = numbers;
   right = moved;
-  if (!NUMBERS_ONLY) {
-    left = put(make("+s", ROWS, 1, NULL, NULL, NULL), "a", numbers);
-    right = put(make("+s", ROWS, 1, NULL, NULL, NULL), "a", moved);
-  }
+  left = put(make("+s", ROWS, 1, NULL, NULL, NULL), "a", numbers);
+  right = put(make("+s", ROWS, 1, NULL, NULL, NULL), "a", moved);
   for (int row = 0; row < ROWS; row++) {
     wanted[row / 8] = (uint8_t)(wanted[row / 8] | (row % 3 != 0) << (row % 8));
   }

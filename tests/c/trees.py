@@ -1,11 +1,11 @@
 #!/usr/bin/env python3
 """Compares random columns of all types, and looks at each row by Python's own ==.
 
-usage: trees.py LIBRARY [--number 400] [--seed 1] [--numbers]
+usage: trees.py LIBRARY [--number 400] [--seed 1]
 
 A column has a random type, up to four levels, and up to 200 rows; a few have 20,000 to 40,000,
 which takes several windows. Each pair is compared whole, with sides exchanged, and in a window at
-random rows of each side. With --numbers all types are numbers. Ends with `N passed, M failed`.
+random rows of each side. Ends with `N passed, M failed`.
 """
 import argparse
 import ctypes
@@ -98,7 +98,6 @@ def main():
     asked.add_argument("library")
     asked.add_argument("--number", type=int, default=400)
     asked.add_argument("--seed", type=int, default=1)
-    asked.add_argument("--numbers", action="store_true")
     chosen = asked.parse_args()
     library = arrow.load(chosen.library)
     failed = rows = same = 0
@@ -106,7 +105,7 @@ def main():
         chance = random.Random(f"trees {chosen.seed} {number}")
         is_long = number % 100 == 99
         count = chance.randrange(20_000, 40_000) if is_long else chance.choice(LENGTHS)
-        depth = 0 if chosen.numbers else 1 if is_long else 3
+        depth = 1 if is_long else 3
         faults, equal_count = try_pair(library, chance, depth, count)
         failed += bool(faults)
         rows, same = rows + count, same + equal_count

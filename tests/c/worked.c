@@ -627,9 +627,8 @@ static void try_nulls(void) {
         "null floats");
   const int8_t keys[] = {0, 0};
   struct made *keyed = dictionary("c", 2, NULL, keys, make("n", 1, 0, NULL, NULL, NULL));
-  int32_t wanted = NUMBERS_ONLY ? DUNKELVA_NOT_SERVED : DUNKELVA_OK;
-  count(dunkelva_is_null(&keyed->type, &keyed->array, &out, 1, &nulls) == wanted &&
-            (NUMBERS_ONLY || (out == 0x3 && nulls == 2)),
+  count(dunkelva_is_null(&keyed->type, &keyed->array, &out, 1, &nulls) == DUNKELVA_OK &&
+            out == 0x3 && nulls == 2,
         "keys to a null");
 }
 
@@ -854,24 +853,22 @@ int main(void) {
   try_sums();
   try_comparisons();
   try_nulls();
-  if (!NUMBERS_ONLY) {
-    try_numbers_of_other_formats();
-    try_floats();
-    try_truth_values();
-    try_texts();
-    try_views();
-    try_bad_views();
-    try_columns_of_views();
-    try_many_views();
-    try_lists();
-    try_structs_and_maps();
-    try_dictionaries();
-    try_null_entries();
-    try_broken_structs();
-    try_arguments();
-    try_bytes();
-    try_many_rows();
-  }
+  try_numbers_of_other_formats();
+  try_floats();
+  try_truth_values();
+  try_texts();
+  try_views();
+  try_bad_views();
+  try_columns_of_views();
+  try_many_views();
+  try_lists();
+  try_structs_and_maps();
+  try_dictionaries();
+  try_null_entries();
+  try_broken_structs();
+  try_arguments();
+  try_bytes();
+  try_many_rows();
   printf("%d passed, %d failed\n", passed, failed);
   return failed > 0;
 }

@@ -266,7 +266,7 @@ CALLS = {
     "key_value": lambda arrays, name, i: str(arrays[name].key(int(i))),
     "array_len": lambda arrays, name: str(arrays[name].n),
     "equal_windows": any_windows,
-    **{f"{kind}_windows": windows for kind in ("list", "fixed_size_list", "struct", "dictionary")},
+    **{f"eq_{kind}": windows for kind in ("lists", "fixed_size_lists", "structs", "dictionaries")},
     "array_tot_eq_missing_kernel_with_steps": lambda *words: dispatched("_eq_counted", *words),
 }
 for relation in ("eq", "ne"):
