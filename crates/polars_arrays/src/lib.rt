@@ -1,9 +1,12 @@
-//! Arrays of columns, re-exported by one crate: the number types, their comparisons and the counter
-//! of `polars_arrays_numbers`; packed bits, buffers and errors of `polars_arrays_bits`; arrays of
-//! numbers and of truth values, and types, of `polars_arrays_flat`; byte strings and texts of
-//! `polars_arrays_bytes` and, as views, of `polars_arrays_views`; and nested arrays of
-//! `polars_arrays_nested`. A caller depends on this crate alone, and writes
-//! `polars_arrays::primitive::PrimitiveArray` for a name of any of them.
+//! Re-exports the modules of the crates of arrays, so that a caller depends on this crate alone.
+//! Items have paths such as `polars_arrays::primitive::PrimitiveArray`, whichever of these crates
+//! defines them:
+//! - `polars_arrays_numbers`: the number types, their comparisons and the counter;
+//! - `polars_arrays_bits`: packed bits, buffers and errors;
+//! - `polars_arrays_flat`: types, and arrays of numbers and of truth values;
+//! - `polars_arrays_bytes`: arrays of byte strings and of texts;
+//! - `polars_arrays_views`: arrays of byte strings and of texts, as views;
+//! - `polars_arrays_nested`: nested arrays.
 #![tactic(auto)]
 
 pub use polars_arrays_bits::{

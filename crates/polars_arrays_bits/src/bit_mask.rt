@@ -15,11 +15,11 @@ use polars_arrays_words::source::{Aligned, BitSource, Shifted, count_window};
 use polars_arrays_words::words::{bit_from, low_bits, place_of, word_from};
 use std::marker::Model;
 
-/// A borrowed window of a bitmap.
+/// A borrowed window of a bitmap: some adjacent bits. No bit is copied.
 #[derive(Drop)]
 pub struct BitMask<'a> {
     words: &'a [u64],
-    // bit of the first word where the window begins
+    // index of the first bit of the window, counted from the lowest bit of the first word
     at: usize,
     len: usize,
 }
@@ -36,7 +36,7 @@ impl<'a> Model for BitMask<'a> {
 }
 
 impl<'a> BitMask<'a> {
-    /// Borrows all bits of a bitmap.
+    /// Creates the window of all bits of a bitmap.
     pub fn from_bitmap(bitmap: &'a Bitmap) -> BitMask<'a>
         ensures { result ≡ bitmap.now }
     {
@@ -45,7 +45,8 @@ impl<'a> BitMask<'a> {
         BitMask { words, at, len }
     }
 
-    // Returns the words that hold the window, and the bit of the first word where it begins.
+    // Returns the words that hold the window, and the index of the window's first bit in the first
+    // word.
     pub(crate) fn packed(&self) -> (&'a [u64], usize)
         ensures begin { result.1 < 64 }
         ensures within { result.1 + length self.now ≤ 64 * length result.0.now }
@@ -54,7 +55,7 @@ impl<'a> BitMask<'a> {
         (self.words, self.at)
     }
 
-    /// Returns the window of `n` bits from `at` on.
+    /// Returns the window of the `n` bits from index `at` on.
     pub fn window(&self, at: usize, n: usize) -> BitMask<'a>
         requires { at + n ≤ length self.now }
         ensures { result ≡ take n (drop at self.now) }
@@ -82,7 +83,7 @@ impl<'a> BitMask<'a> {
         bit_from(self.words, self.at, i)
     }
 
-    /// Returns the 64 bits from bit `64 * k` on as a word, the first one lowest.
+    /// Returns bits `64 * k` to `64 * k + 63` as a word. The first of these bits is the lowest bit.
     #[inline]
     pub fn word(&self, k: usize) -> u64
         requires { 64 * k + 64 ≤ length self.now }
@@ -96,8 +97,8 @@ impl<'a> BitMask<'a> {
         Shifted { words, by }.inner_word(k)
     }
 
-    /// Returns the `n` bits from `at` on, at most 64, as a word: the first one lowest, and zeros
-    /// above the last.
+    /// Returns the `n` bits from index `at` on as a word, with `n` at most 64. The first of these
+    /// bits is the lowest. The bits above the last one are 0.
     #[inline]
     pub fn few_bits(&self, at: usize, n: usize) -> u64
         requires within { at + n ≤ length self.now }
@@ -108,7 +109,7 @@ impl<'a> BitMask<'a> {
         word_from(self.words, self.at, at) & low_bits(n)
     }
 
-    /// Returns whether the `n` bits from `at` on are all true.
+    /// Returns whether the `n` bits from index `at` on are all true.
     #[inline(always)]
     pub fn all_set(&self, at: usize, n: usize) -> bool
         requires { at + n ≤ length self.now }

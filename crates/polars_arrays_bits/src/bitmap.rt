@@ -18,13 +18,13 @@ use polars_arrays_words::words::{WORD_BITS, bit_from, filled_word, place_of};
 use std::alloc::Global;
 use std::marker::Model;
 
-/// A list of truth values, packed into 64-bit words in the Arrow layout. Slices and clones of a
-/// shared bitmap share its words.
+/// A list of truth values, packed into 64-bit words in the Arrow layout: the first value is the
+/// lowest bit. The bits can't be written. Clones of a shared bitmap use the same words (`share`).
 #[derive(Drop)]
 pub struct Bitmap {
-    // bits outside the window are arbitrary
+    // bits before `at` and from `at + len` on are arbitrary
     words: Buffer<u64>,
-    // bit of the first word where the window begins
+    // index of the first bit of the bitmap, counted from the lowest bit of the first word
     at: usize,
     len: usize,
 }
@@ -41,14 +41,14 @@ impl Model for Bitmap {
 }
 
 impl Bitmap {
-    /// Creates `len` false bits. The error is `Memory`.
+    /// Creates a bitmap of `len` false bits. The error is `Memory`.
     pub fn new_zeroed(alloc: Global, len: usize) -> Result<Bitmap, ComputeError>
         ensures { MatchResult result (λ bits. bits ≡ replicate len false) IsMemory }
     {
         Bitmap::new_with_value(alloc, false, len)
     }
 
-    /// Creates `len` bits that are all `value`. The error is `Memory`.
+    /// Creates a bitmap of `len` bits that are all `value`. The error is `Memory`.
     pub fn new_with_value(alloc: Global, value: bool, len: usize) -> Result<Bitmap, ComputeError>
         ensures { MatchResult result (λ bits. bits ≡ replicate len value) IsMemory }
     {
@@ -56,14 +56,15 @@ impl Bitmap {
         Ok(Bitmap::from_vec(words, len))
     }
 
-    /// Packs the truth values of a slice. The error is `Memory`.
+    /// Creates a bitmap of the truth values of a slice. The error is `Memory`.
     pub fn from_bools(alloc: Global, values: &[bool]) -> Result<Bitmap, ComputeError>
         ensures { MatchResult result (λ bits. bits ≡ values.now) IsMemory }
     {
         Bitmap::from_values(alloc, &Bools { values })
     }
 
-    /// Packs truth values that are read one by one. The error is `Memory`.
+    /// Creates a bitmap of the truth values of `values`, such as the results of comparing two
+    /// slices. The error is `Memory`.
     pub fn from_values<V: TruthValues>(alloc: Global, values: &V) -> Result<Bitmap, ComputeError>
         ensures { MatchResult result (λ bits. bits ≡ V.values values.now) IsMemory }
     {
@@ -71,7 +72,7 @@ impl Bitmap {
         Bitmap::from_source(alloc, &source, values.len())
     }
 
-    // Collects the first `len` bits of a source.
+    // Creates a bitmap of the first `len` bits of a source. The error is `Memory`.
     pub(crate) fn from_source<S: BitSource>(
         alloc: Global,
         source: &S,
@@ -83,8 +84,9 @@ impl Bitmap {
         Ok(Bitmap::from_vec(words, len))
     }
 
-    /// Creates a bitmap of the `n` bits from bit `at` on of 64-bit words: bit `i` is bit
-    /// `(at + i) % 64`, counted from the lowest, of word `(at + i) / 64` (the Arrow layout).
+    /// Creates a bitmap of `n` of the bits in `words`, beginning at bit `at`. Bit `i` of the bitmap
+    /// is bit `(at + i) % 64` of word `(at + i) / 64`; bit 0 of a word is its lowest (the Arrow
+    /// layout). No word is copied.
     pub fn from_words(words: Buffer<u64>, at: usize, n: usize) -> Bitmap
         requires { at + n ≤ 64 * length words.items }
         ensures len { length result ≡ n }
@@ -116,7 +118,7 @@ impl Bitmap {
         bit_from(self.words.as_slice(), self.at, i)
     }
 
-    /// Returns bit `i`, or `None` past the end.
+    /// Returns bit `i`, or `None` if `i` is not below the number of bits.
     pub fn get(&self, i: usize) -> Option<bool>
         ensures { result ≡ slice_get self.now i }
     {
@@ -127,7 +129,7 @@ impl Bitmap {
         }
     }
 
-    /// Keeps the `n` bits from `at` on. No bit is moved.
+    /// Slices the bitmap in place: only the `n` bits from index `at` on remain. No bit is moved.
     pub fn slice(&mut self, at: usize, n: usize)
         requires { at + n ≤ length self.old }
         ensures { self.new ≡ take n (drop at self.old) }
@@ -138,8 +140,8 @@ impl Bitmap {
         self.len = n;
     }
 
-    /// Makes the words shared: later clones share them instead of copying. The words are not moved.
-    /// The error is `Memory`.
+    /// Converts to a bitmap whose words are shared: later clones use the same words instead of
+    /// copying them. The bits don't change, and no word is moved. The error is `Memory`.
     pub fn share(self, alloc: Global) -> Result<Bitmap, ComputeError>
         ensures { MatchResult result (λ shared. shared ≡ self) IsMemory }
     {
@@ -148,7 +150,7 @@ impl Bitmap {
         Ok(Bitmap { words, at, len })
     }
 
-    /// Clones the bitmap. Shared words are not copied. The error is `Memory`.
+    /// Clones the bitmap. Owned words are copied, shared ones are not. The error is `Memory`.
     pub fn clone_bitmap(&self, alloc: Global) -> Result<Bitmap, ComputeError>
         ensures { MatchResult result (λ copy. copy ≡ self.now) IsMemory }
     {
@@ -160,8 +162,9 @@ impl Bitmap {
         })
     }
 
-    /// Converts to a mutable bitmap. Reuses the words if the bitmap owns them and begins at the
-    /// lowest bit of the first, and copies them otherwise. The error is `Memory`.
+    /// Converts to a mutable bitmap of the same bits. Reuses the words if the bitmap owns them, if
+    /// no word was sliced off, and if the first bit is the lowest of its word. Otherwise copies the
+    /// words. The error is `Memory`.
     pub fn into_mut(self, alloc: Global) -> Result<MutableBitmap, ComputeError>
         ensures { MatchResult result (λ bits. bits ≡ self) IsMemory }
     {
@@ -179,7 +182,8 @@ impl Bitmap {
         }
     }
 
-    // Creates a bitmap of the first `len` bits of words.
+    // Creates a bitmap of the first `len` bits of `words`. Bit 0 is the lowest bit of the first
+    // word.
     pub(crate) fn from_vec(words: Vec<u64>, len: usize) -> Bitmap
         requires { len ≤ 64 * vec_len words }
         ensures { result ≡ window 0 len words.items }
@@ -188,8 +192,8 @@ impl Bitmap {
         Bitmap { words, at: 0, len }
     }
 
-    // Returns the words in which the bits are stored, packed already, and the bit of the first word
-    // where the bitmap begins.
+    // Returns the words that store the bits, and the index of the bitmap's first bit in the first
+    // word.
     pub(crate) fn packed(&self) -> (&[u64], usize)
         ensures begin { result.1 < 64 }
         ensures within { result.1 + length self.now ≤ 64 * length result.0.now }

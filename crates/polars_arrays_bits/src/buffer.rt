@@ -1,4 +1,4 @@
-//! Elements in one piece of memory, owned or shared.
+//! Adjacent elements in memory that is owned or shared.
 
 ghost use Rattle.std.specs.Prelude.{◌≡◌, ◌+◌, ◌≤◌, ◌↔◌, List, Bool, true, false, IsTrue, IsFalse};
 ghost use Rattle.std.specs.Prelude.{IsOk, IsSome, IfSome, MatchResult, take, drop, length};
@@ -10,7 +10,7 @@ use std::alloc::Global;
 use std::marker::Model;
 use std::rc::RcSlice;
 
-/// The memory of a buffer.
+/// The memory of a buffer: a vector that only this buffer uses, or a slice that its clones use too.
 #[derive(Drop)]
 enum Store<T: Copy> {
     Owned(Vec<T>),
@@ -21,7 +21,7 @@ impl<T: Copy> Store<T> {
     ghost use Rattle.polars_arrays_bits.specs.Buffer.{stored, is_vector};
     ghost use Rattle.polars_arrays_bits.specs.StoreLends.{lends_window};
 
-    // Borrows a window of an owned vector for writing.
+    // Mutably borrows the `len` elements from index `start` on. The memory must be owned.
     fn window_mut(&mut self, start: usize, len: usize) -> &mut [T]
         requires vector { IsTrue (is_vector self.old) }
         requires within { start + len ≤ length (stored self.old) }
@@ -35,7 +35,8 @@ impl<T: Copy> Store<T> {
     }
 }
 
-/// A window of elements that one buffer owns, or that several buffers of one thread share.
+/// A slice of elements in memory. One buffer owns the memory, or several buffers of one thread
+/// share it.
 #[derive(Drop)]
 pub struct Buffer<T: Copy> {
     store: Store<T>,
@@ -90,7 +91,8 @@ impl<T: Copy> Buffer<T> {
         &all[self.start..self.start + self.len]
     }
 
-    /// Keeps the `n` elements from `at` on. No element is moved.
+    /// Slices the buffer in place: only the `n` elements from index `at` on remain. No element is
+    /// moved.
     pub fn slice(&mut self, at: usize, n: usize)
         requires { at + n ≤ length self.old.items }
         ensures { self.new
@@ -100,15 +102,15 @@ impl<T: Copy> Buffer<T> {
         self.len = n;
     }
 
-    /// Returns whether the buffer owns its elements, and so may write them. A shared buffer never
-    /// owns them again.
+    /// Returns whether the buffer owns its memory, so that its elements may be written. A shared
+    /// buffer never becomes an owned one.
     pub fn is_owned(&self) -> bool
         ensures { result ≡ self.now.owned }
     {
         matches!(&self.store, Store::Owned(_))
     }
 
-    /// Borrows the elements of an owned buffer for writing.
+    /// Mutably borrows the elements. The buffer must own its memory.
     pub fn as_mut_slice(&mut self) -> &mut [T]
         requires { IsTrue self.old.owned }
         ensures* written { sem 𝓛 (lends_elements T.row self.entry result) }
@@ -117,7 +119,7 @@ impl<T: Copy> Buffer<T> {
         self.store.window_mut(self.start, self.len)
     }
 
-    // Returns the result of `is_owned`, through a `&mut`.
+    // Returns whether the buffer owns its memory. Takes `&mut self`, unlike `is_owned`.
     fn owns(&mut self) -> bool
         ensures unchanged { self.new ≡ self.old }
         ensures owned { result ≡ self.old.owned }
@@ -125,7 +127,7 @@ impl<T: Copy> Buffer<T> {
         self.is_owned()
     }
 
-    /// Borrows the elements for writing, or returns `None` if they are shared.
+    /// Mutably borrows the elements. Returns `None` if the memory is shared.
     pub fn get_mut(&mut self) -> Option<&mut [T]>
         ensures* written { sem 𝓛 (lends_elements_if T.row self.entry result) }
         ensures owned { IsSome result ↔ IsTrue self.old.owned }
@@ -138,8 +140,8 @@ impl<T: Copy> Buffer<T> {
         }
     }
 
-    /// Converts to the vector of the elements if the buffer owns them and they are the whole
-    /// vector, and returns the buffer unchanged otherwise. No element is moved.
+    /// Converts to a vector if the buffer owns its memory and no element was sliced off. Otherwise
+    /// returns the unchanged buffer as `Err`. No element is moved.
     pub fn into_vec(self) -> Result<Vec<T>, Buffer<T>>
         ensures same { MatchResult result (λ elements. elements.items ≡ self.items)
             (λ buffer. buffer ≡ self) }
@@ -161,8 +163,9 @@ impl<T: Copy> Buffer<T> {
         }
     }
 
-    /// Makes the elements shared: later clones share them instead of copying. No element is moved.
-    /// The error is `Memory`, which only an owned buffer can cause.
+    /// Converts to a buffer whose memory is shared: later clones use the same memory instead of
+    /// copying the elements. No element is moved. Succeeds always if the buffer is shared already.
+    /// Otherwise the error is `Memory`.
     pub fn share(self, _alloc: Global) -> Result<Buffer<T>, ComputeError>
         ensures shared { MatchResult result
             (λ shared. shared ≡ record { items = self.items; owned = false }) IsMemory }

@@ -1,4 +1,4 @@
-//! Builders of bitmaps.
+//! A builder of bitmaps.
 
 ghost use Rattle.std.specs.Prelude.{◌≡◌, ◌+◌, ◌-◌, ◌*◌, ◌<◌, ◌≤◌, [], ◌∷◌, ◌++◌, length, replicate};
 ghost use Rattle.std.specs.Prelude.{MatchResult};
@@ -17,7 +17,7 @@ use polars_arrays_words::write::{append_bits, append_values, fill_bits, write_bi
 use std::alloc::Global;
 use std::marker::Model;
 
-/// A bitmap under construction, with room for a number of further bits.
+/// A bitmap under construction, with room for a limited number of further bits.
 #[derive(Drop)]
 pub struct BitmapBuilder {
     // bits from `len` on are arbitrary
@@ -53,21 +53,21 @@ impl BitmapBuilder {
         })
     }
 
-    /// Returns the number of bits pushed.
+    /// Returns the number of bits pushed so far.
     pub fn len(&self) -> usize
         ensures { result ≡ length self.now.bits }
     {
         self.len
     }
 
-    /// Returns the number of bits that still fit.
+    /// Returns the number of bits that can still be pushed.
     pub fn room(&self) -> usize
         ensures { result ≡ self.now.room }
     {
         self.room
     }
 
-    /// Pushes one bit.
+    /// Pushes one bit. There must be room for it.
     #[inline]
     pub fn push_reserved(&mut self, value: bool)
         requires { 0 < self.old.room }
@@ -79,7 +79,7 @@ impl BitmapBuilder {
         self.room -= 1;
     }
 
-    /// Pushes the bit `value` `n` times, whole words at a time.
+    /// Pushes `n` bits that are all `value`, whole words at a time.
     pub fn extend_constant(&mut self, n: usize, value: bool)
         requires { n ≤ self.old.room }
         ensures { self.new
@@ -91,7 +91,7 @@ impl BitmapBuilder {
         self.room -= n;
     }
 
-    /// Pushes truth values: reads them one by one, and writes 64 at a time.
+    /// Pushes the truth values of `values`. Packs and writes 64 values at a time.
     pub fn extend_values<V: TruthValues>(&mut self, values: &V)
         requires { length (V.values values.now) ≤ self.old.room }
         ensures { self.new
@@ -122,8 +122,9 @@ impl BitmapBuilder {
         self.room -= n;
     }
 
-    /// Pushes a bit for each of `n` blocks of `width` bits: whether all bits of the block are true.
-    /// The first block begins at the first bit. Blocks of 2 and 4 bits are folded a word at a time.
+    /// Pushes a bit for each of the first `n` blocks of `width` bits of `items`. The bit is true if
+    /// all bits of the block are true. The first block begins at the first bit. For the widths 2
+    /// and 4 whole words are folded at once, for others a block at a time.
     pub fn extend_blocks(&mut self, items: &BitMask<'_>, width: usize, n: usize)
         requires within { width * n ≤ length items.now }
         requires room { n ≤ self.old.room }
@@ -152,7 +153,7 @@ impl BitmapBuilder {
         }
     }
 
-    /// Converts to a bitmap of the bits pushed.
+    /// Converts to a bitmap of the pushed bits. No word is copied.
     pub fn freeze(self) -> Bitmap
         ensures { result ≡ self.bits }
     {

@@ -1,4 +1,4 @@
-//! Truth values that are read in order, while a counter adds up what each of them costs.
+//! Packs truth values into bitmaps, and adds the cost of each value to a counter.
 
 ghost use Rattle.std.specs.Prelude.{◌≡◌, ℕ, ◌+◌, ◌*◌, ◌/◌, ◌^◌, ◌<◌, ◌≤◌, [], Bool, List, false};
 ghost use Rattle.std.specs.Prelude.{IsTrue, length, vec_capacity, get_or, slice_index_or, IfOk};
@@ -16,36 +16,37 @@ use polars_arrays_words::packing::put;
 use polars_arrays_words::words::WORD_BITS;
 use std::alloc::Global;
 
-/// A list of truth values that are read one by one, each at a cost that is added to a counter. It
-/// may offer a quick `guess` of a value; where its `is_sure` is true, the guess is the value, which
-/// then costs nothing.
+/// A list of truth values. Each has a cost, which `value` adds to a counter. A type may also offer
+/// guesses, which are not counted: `guess` returns the right value if `is_sure` is true, and the
+/// cost of that value is then 0.
 pub trait CountedValues {
     // The truth values, the first one first.
     ghost values: { Self → List Bool };
 
-    // Costs of the places.
+    // The cost of the value at each index.
     ghost costs: { Self → ℕ → ℕ };
 
-    // Places where a guess is sure to be right.
+    // Indices at which the guess is sure to be right.
     ghost sure: { Self → ℕ → Bool };
 
     /// Returns the number of truth values.
     fn len(&self) -> usize
         ensures { result ≡ length (values self.now) };
 
-    /// Returns the truth value at place `i`, and adds its cost to the counter.
+    /// Returns the truth value at index `i`, and adds its cost to the counter.
     fn value(&self, i: usize, steps: &mut Steps) -> bool
         requires { i < length (values self.now) }
         ensures told { result ≡ slice_index_or (values self.now) i false }
         ensures counted { steps.new ≡ steps.old + costs self.now i };
 
-    /// Returns a quick guess of the truth value at place `i`. If `is_sure`, it is the value;
-    /// otherwise it may be wrong.
+    /// Returns a guess of the truth value at index `i`, and counts nothing. The guess is right if
+    /// `is_sure(i)` is true, and may be wrong otherwise.
     fn guess(&self, i: usize) -> bool
         requires { i < length (values self.now) }
         ensures { IsTrue (sure self.now i) → result ≡ slice_index_or (values self.now) i false };
 
-    /// Returns whether the guess at place `i` is sure to be right. The value then costs nothing.
+    /// Returns whether the guess at index `i` is sure to be right. If so, the cost of the value is
+    /// 0.
     #[inline(always)]
     fn is_sure(&self, _i: usize) -> bool
         requires { _i < length (values self.now) }
@@ -56,7 +57,7 @@ pub trait CountedValues {
     }
 }
 
-// Packs the guesses of the eight truth values from place `at` on into a byte.
+// Packs the eight guesses from index `at` on into the lowest eight bits of a word.
 #[inline(always)]
 fn guess_eight<V: CountedValues>(values: &V, at: usize) -> u64
     requires within { at + 8 ≤ length (V.values values.now) }
@@ -70,8 +71,8 @@ fn guess_eight<V: CountedValues>(values: &V, at: usize) -> u64
     word
 }
 
-// Packs the guesses of the 64 truth values from place `at` on into a word, eight at a time: loops
-// of so short a constant length are compiled without branches.
+// Packs the 64 guesses from index `at` on into a word, eight at a time. The compiler removes the
+// branches of loops that have a small constant number of iterations.
 #[inline(always)]
 fn guess_word<V: CountedValues>(values: &V, at: usize) -> u64
     requires within { at + 64 ≤ length (V.values values.now) }
@@ -86,8 +87,8 @@ fn guess_word<V: CountedValues>(values: &V, at: usize) -> u64
     word
 }
 
-// Returns whether all 64 guesses from place `at` on are sure to be right. A separate loop is faster
-// than a test with each guess.
+// Returns whether all 64 guesses from index `at` on are sure to be right. A separate loop is faster
+// than a check with each guess.
 #[inline(always)]
 fn are_sure<V: CountedValues>(values: &V, at: usize) -> bool
     requires within { at + 64 ≤ length (V.values values.now) }
@@ -102,7 +103,8 @@ fn are_sure<V: CountedValues>(values: &V, at: usize) -> bool
     sure
 }
 
-// Packs the `count` truth values from place `at` on into a word, with zeros above them.
+// Packs the `count` truth values from index `at` on into a word, with zeros above them. Adds the
+// cost of each value to the counter.
 #[inline(always)]
 fn pack_counted<V: CountedValues>(values: &V, at: usize, count: usize, steps: &mut Steps) -> u64
     requires few { count ≤ 64 }
@@ -118,9 +120,9 @@ fn pack_counted<V: CountedValues>(values: &V, at: usize, count: usize, steps: &m
     word
 }
 
-// Packs the `count` truth values from place `at` on into a word, with zeros above them. If there
-// are all 64, it guesses them first, and reads them one by one only if some guess is not sure. If
-// the first guess is not sure, it makes no others.
+// Packs the `count` truth values from index `at` on into a word, with zeros above them. Adds their
+// costs to the counter. If `count` is 64 and all guesses are sure, the word is made of the guesses;
+// otherwise the values are read one by one. If the first guess is not sure, no guess is made.
 #[inline(always)]
 fn count_word<V: CountedValues>(values: &V, at: usize, count: usize, steps: &mut Steps) -> u64
     requires few { count ≤ 64 }
@@ -138,7 +140,8 @@ fn count_word<V: CountedValues>(values: &V, at: usize, count: usize, steps: &mut
     pack_counted(values, at, count, steps)
 }
 
-// Fills an empty vector with the words of all truth values.
+// Fills an empty vector with the `count` words that hold all truth values. Adds the cost of each
+// value to the counter.
 #[inline(always)]
 fn push_counted<V: CountedValues>(words: &mut Vec<u64>, values: &V, count: usize, steps: &mut Steps)
     requires enough { length (V.values values.now) ≤ 64 * count }
@@ -157,9 +160,9 @@ fn push_counted<V: CountedValues>(words: &mut Vec<u64>, values: &V, count: usize
 }
 
 impl Bitmap {
-    /// Packs truth values and adds the cost of each to the counter. They are read one by one,
-    /// except that 64 at a time may be guessed: where `is_sure` is true, the guess is the value and
-    /// costs nothing. The error is `Memory`; the counter may then have increased.
+    /// Creates a bitmap of truth values, and adds the cost of each value to the counter. The values
+    /// are read one by one, except for words in which all 64 guesses are sure (`is_sure`). The
+    /// error is `Memory`; the counter may have increased by then.
     pub fn from_counted<V: CountedValues>(
         alloc: Global,
         values: &V,

@@ -5,7 +5,7 @@ ghost use Rattle.polars_arrays_bits.specs.Errors.{IsMemory};
 use std::alloc::{AllocError, AllocFailed};
 use thiserror::Error;
 
-/// The reason why a computation has no result.
+/// An error of a computation on arrays.
 #[derive(Debug, Drop, Error)]
 pub enum ComputeError {
     /// An allocation failed.
@@ -14,7 +14,7 @@ pub enum ComputeError {
     /// The kind of array does not support the operation.
     #[error("not supported")]
     Unsupported,
-    /// A dictionary key is not below the number of entries, `len`.
+    /// A dictionary's key `key` is not below `len`, the number of entries.
     #[error("key {key} is not below {len}")]
     KeyOutOfRange { key: u32, len: usize },
 }
@@ -35,26 +35,27 @@ impl<T: Drop> From<AllocFailed<T>> for ComputeError {
     }
 }
 
-/// The reason why parts do not make an array.
+/// An error of an array constructor: the given parts do not make an array.
 #[derive(Debug, PartialEq, Eq, Drop, Error)]
 pub enum ArrayError {
-    /// The lengths of the parts do not match.
+    /// The lengths of the parts do not fit together.
     #[error("lengths do not fit")]
     Length,
-    /// The offsets of a row decrease, or lie outside the values.
+    /// The offsets of row `row` decrease, or lie outside the values.
     #[error("offsets of row {row} are not good")]
     Offsets { row: usize },
-    /// A field's values do not have the struct's length or the field's type.
+    /// The values of field `at` do not have the struct's length or the field's type.
     #[error("field {at} does not fit")]
     Field { at: usize },
-    /// A view is bad: it points outside of its buffer, its prefix is not that of the bytes, or a
-    /// row of at most 12 bytes is not filled up with zeros.
+    /// The view of row `row` points outside its buffer, has a prefix that differs from the first
+    /// bytes of the row, or, in a row of at most 12 bytes, is not padded with zeros.
     #[error("view {row} is not good")]
     View { row: usize },
-    /// The bytes of a row are not UTF-8.
+    /// The bytes of row `row` are not UTF-8.
     #[error("row {row} is not UTF-8")]
     NotUtf8 { row: usize },
-    /// A present key is negative or not below the number of entries.
+    /// The key of row `row` is negative or not below the number of entries, though the row is
+    /// present.
     #[error("key {row} is out of range")]
     Key { row: usize },
 }

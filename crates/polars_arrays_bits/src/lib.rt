@@ -1,5 +1,5 @@
-//! Packed bits, buffers and errors, the basis of all arrays. The crate re-exports the number types
-//! and the counter of `polars_arrays_numbers`, and the packing of truth values of
+//! Packed bits, buffers and errors, on which all arrays are built. The crate re-exports the number
+//! types, the comparisons and the counter of `polars_arrays_numbers`, and the module `packing` of
 //! `polars_arrays_words`.
 #![tactic(auto)]
 

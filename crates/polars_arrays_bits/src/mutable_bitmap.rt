@@ -24,7 +24,7 @@ use polars_arrays_words::write::write_bit;
 use std::alloc::Global;
 use std::marker::Model;
 
-/// A list of truth values that can be changed in place, packed into 64-bit words.
+/// A list of truth values, packed into 64-bit words, whose bits can be written.
 #[derive(Drop)]
 pub struct MutableBitmap {
     // bits from `len` on are arbitrary
@@ -44,7 +44,7 @@ impl Model for MutableBitmap {
 }
 
 impl MutableBitmap {
-    // Creates `n` bits that are all `value`. The error is `Memory`.
+    // Creates a bitmap of `n` bits that are all `value`. The error is `Memory`.
     #[inline]
     fn filled(alloc: Global, value: bool, n: usize) -> Result<MutableBitmap, ComputeError>
         ensures { MatchResult result (λ bits. bits ≡ replicate n value) IsMemory }
@@ -53,14 +53,14 @@ impl MutableBitmap {
         Ok(MutableBitmap { words, len: n })
     }
 
-    /// Creates `n` false bits. The error is `Memory`.
+    /// Creates a bitmap of `n` false bits. The error is `Memory`.
     pub fn from_len_zeroed(alloc: Global, n: usize) -> Result<MutableBitmap, ComputeError>
         ensures { MatchResult result (λ bits. bits ≡ replicate n false) IsMemory }
     {
         MutableBitmap::filled(alloc, false, n)
     }
 
-    /// Creates `n` true bits. The error is `Memory`.
+    /// Creates a bitmap of `n` true bits. The error is `Memory`.
     pub fn from_len_set(alloc: Global, n: usize) -> Result<MutableBitmap, ComputeError>
         ensures { MatchResult result (λ bits. bits ≡ replicate n true) IsMemory }
     {
@@ -79,7 +79,8 @@ impl MutableBitmap {
         Ok(MutableBitmap { words, len })
     }
 
-    // Creates a bitmap of the first `len` bits of words.
+    // Creates a bitmap of the first `len` bits of `words`. Bit 0 is the lowest bit of the first
+    // word.
     pub(crate) fn from_vec(words: Vec<u64>, len: usize) -> MutableBitmap
         requires { len ≤ 64 * vec_len words }
         ensures { result ≡ window 0 len words.items }
@@ -117,7 +118,7 @@ impl MutableBitmap {
         count_window(self.words.as_slice(), 0, self.len)
     }
 
-    // Applies a change to each bit.
+    // Sets each bit to the result of `change` for the index of the bit and its old value.
     fn change<C: WordChange>(&mut self, change: &C)
         ensures { self.new
             ≡ first_of (λ i. C.bit change.now i (get_or self.old i false)) (length self.old) }
@@ -129,14 +130,16 @@ impl MutableBitmap {
         change_words(words, change, inner, count);
     }
 
-    // Sets each bit to the operator's result with the source's bit.
+    // Sets each bit to the operator's result for the bit itself and the source's bit at the same
+    // index.
     fn assign<O: BinaryOperator, S: BitSource + Drop>(&mut self, operator: O, source: S)
         ensures { self.new ≡ zip2 O.bit self.old (first_of (S.bit source) (length self.old)) }
     {
         self.change(&JoinedWith { operator, source });
     }
 
-    // Sets each bit to the operator's result with the bits of two sources.
+    // Sets each bit to the operator's result for the bit itself and the bits of `left` and `right`
+    // at the same index.
     fn assign_both<O: TernaryOperator, A: BitSource + Drop, B: BitSource + Drop>(
         &mut self,
         operator: O,
@@ -153,7 +156,8 @@ impl MutableBitmap {
         });
     }
 
-    // Sets each bit to the operator's result with the window's bit.
+    // Sets each bit to the operator's result for the bit itself and the bit of `other` at the same
+    // index.
     fn join<O: BinaryOperator>(&mut self, operator: O, other: &BitMask<'_>)
         requires { length other.now ≡ length self.old }
         ensures { self.new ≡ zip2 O.bit self.old other.now }
@@ -166,7 +170,8 @@ impl MutableBitmap {
         }
     }
 
-    // Sets each bit to the operator's result with the bits of two windows.
+    // Sets each bit to the operator's result for the bit itself and the bits of the windows `left`
+    // and `right` at the same index.
     fn merge<O: TernaryOperator>(&mut self, operator: O, left: &BitMask<'_>, right: &BitMask<'_>)
         requires left { length left.now ≡ length self.old }
         requires right { length right.now ≡ length self.old }
@@ -180,7 +185,8 @@ impl MutableBitmap {
         }
     }
 
-    // Sets each bit to the operator's result with the bits of a source and of a window.
+    // Sets each bit to the operator's result for the bit itself, the bit of the source `left` and
+    // the bit of the window `right` at the same index.
     fn merge_last<O: TernaryOperator, A: BitSource + Drop>(
         &mut self,
         operator: O,
@@ -199,7 +205,7 @@ impl MutableBitmap {
         }
     }
 
-    /// Sets each bit to its OR with the other bitmap's bit.
+    /// Sets each bit to its OR with the bit of `other` at the same index.
     pub fn or_assign(&mut self, other: &MutableBitmap)
         requires { length other.now ≡ length self.old }
         ensures { self.new ≡ zip2 ◌||◌ self.old other.now }
@@ -208,7 +214,7 @@ impl MutableBitmap {
         self.assign(Or, Aligned { words });
     }
 
-    /// Sets each bit to its AND with the other bitmap's bit.
+    /// Sets each bit to its AND with the bit of `other` at the same index.
     pub fn and_assign(&mut self, other: &Bitmap)
         requires { length other.now ≡ length self.old }
         ensures { self.new ≡ zip2 ◌&&◌ self.old other.now }
@@ -216,7 +222,7 @@ impl MutableBitmap {
         self.and_assign_mask(&BitMask::from_bitmap(other));
     }
 
-    /// Sets each bit to its AND with the window's bit.
+    /// Sets each bit to its AND with the bit of the window `other` at the same index.
     pub fn and_assign_mask(&mut self, other: &BitMask<'_>)
         requires { length other.now ≡ length self.old }
         ensures { self.new ≡ zip2 ◌&&◌ self.old other.now }
@@ -224,7 +230,8 @@ impl MutableBitmap {
         self.join(And, other);
     }
 
-    /// Sets each bit to its AND with the truth value at its place, a word at a time.
+    /// Sets each bit to its AND with the truth value at the same index. Packs and combines 64
+    /// values at a time.
     pub fn and_assign_values<V: TruthValues>(&mut self, values: &V)
         requires { length (V.values values.now) ≡ length self.old }
         ensures { self.new ≡ zip2 ◌&&◌ self.old (V.values values.now) }
@@ -232,7 +239,7 @@ impl MutableBitmap {
         self.assign(And, Packed { values });
     }
 
-    /// Sets each bit to `self | !other`, where `other` is the window's bit.
+    /// Sets each bit to `bit | !b`, where `b` is the bit of the window `other` at the same index.
     pub fn or_not_assign_mask(&mut self, other: &BitMask<'_>)
         requires { length other.now ≡ length self.old }
         ensures { self.new ≡ zip2 or_not self.old other.now }
@@ -240,9 +247,10 @@ impl MutableBitmap {
         self.join(OrNot, other);
     }
 
-    /// Sets each bit `q` to `(q & l & r) | !(l | r)`. If the bits are the rows with equal values,
-    /// and the windows the present rows of each side, the bits become the equal rows, null being
-    /// equal to null alone.
+    /// Finds the equal rows of two sides; null is equal only to null. Before the call, the bits say
+    /// which rows have equal stored values; `left` and `right` say which rows of each side are
+    /// present. Afterwards, the bits say which rows are equal. Each bit `q` becomes
+    /// `(q & l & r) | !(l | r)`.
     pub fn merge_eq_assign(&mut self, left: &BitMask<'_>, right: &BitMask<'_>)
         requires left { length left.now ≡ length self.old }
         requires right { length right.now ≡ length self.old }
@@ -251,9 +259,10 @@ impl MutableBitmap {
         self.merge(MergeEq, left, right);
     }
 
-    /// Sets each bit `q` to `(q & l & r) | (l ^ r)`. If the bits are the rows with unequal values,
-    /// and the windows the present rows of each side, the bits become the unequal rows, null being
-    /// equal to null alone.
+    /// Finds the unequal rows of two sides; null is equal only to null. Before the call, the bits
+    /// say which rows have unequal stored values; `left` and `right` say which rows of each side
+    /// are present. Afterwards, the bits say which rows are unequal. Each bit `q` becomes
+    /// `(q & l & r) | (l ^ r)`.
     pub fn merge_ne_assign(&mut self, left: &BitMask<'_>, right: &BitMask<'_>)
         requires left { length left.now ≡ length self.old }
         requires right { length right.now ≡ length self.old }
@@ -262,7 +271,7 @@ impl MutableBitmap {
         self.merge(MergeNe, left, right);
     }
 
-    /// Converts to an immutable bitmap.
+    /// Converts to an immutable bitmap of the same bits. No word is copied.
     pub fn freeze(self) -> Bitmap
         ensures { result ≡ self }
     {

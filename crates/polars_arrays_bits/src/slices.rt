@@ -1,4 +1,4 @@
-//! Comparisons of the elements of slices, place by place.
+//! Element-wise comparisons of slices.
 
 ghost use Rattle.std.specs.Prelude.{◌≡◌, ℕ, ◌+◌, ◌<◌, ◌≤◌, false, ◌&&◌, take, drop, map, length};
 ghost use Rattle.std.specs.Prelude.{MatchResult};
@@ -13,8 +13,9 @@ use polars_arrays_numbers::comparison::Comparison;
 use polars_arrays_words::packing::{TruthValues, pack_few};
 use std::alloc::Global;
 
-/// A comparison of the elements of two slices of equal length, as one truth value a place. (Pairs
-/// of adjacent bits are `Pairs` of `folds.rt` in `polars_arrays_words`.)
+/// The element-wise comparison of two slices of equal length: truth value `i` is the result of
+/// comparing `left[i]` with `right[i]`. (`Pairs` in `folds.rt` of `polars_arrays_words` is another
+/// type, for pairs of adjacent bits.)
 #[derive(Drop)]
 pub struct Pairs<'a, L, R, E> {
     pub comparison: &'a E,
@@ -44,8 +45,8 @@ impl<'a, L: Copy, R: Copy, E: Comparison<L, R>> TruthValues for Pairs<'a, L, R, 
     }
 }
 
-/// Returns a bit for each place of two slices of equal length, set where the comparison holds of
-/// the two elements. The error is `Memory`.
+/// Compares two slices of equal length, element by element. Bit `i` of the result is true if the
+/// comparison holds for `left[i]` and `right[i]`. The error is `Memory`.
 pub fn compare_pairs<L: Copy, R: Copy, E: Comparison<L, R>>(
     alloc: Global,
     comparison: &E,
@@ -66,8 +67,9 @@ pub fn compare_pairs<L: Copy, R: Copy, E: Comparison<L, R>>(
     )
 }
 
-/// Compares the elements of two slices of at most 64 elements, place by place. The results are the
-/// bits of a word, the first one lowest, with zeros above them. Does not allocate.
+/// Compares two slices of equal length and at most 64 elements, element by element. Bit `i` of the
+/// returned word is 1 if the comparison holds for `left[i]` and `right[i]`. The bits above the last
+/// element are 0. Does not allocate.
 #[inline(always)]
 pub fn compare_few<L: Copy, R: Copy, E: Comparison<L, R>>(
     comparison: &E,
@@ -91,8 +93,9 @@ pub fn compare_few<L: Copy, R: Copy, E: Comparison<L, R>>(
     )
 }
 
-/// Compares `count` elements from place `left_at` on of the left slice with those from place
-/// `right_at` on of the right one. The error is `Memory`.
+/// Compares `count` elements of `left`, beginning at index `left_at`, with `count` elements of
+/// `right`, beginning at index `right_at`. Bit `i` of the result is true if the comparison holds
+/// for `left[left_at + i]` and `right[right_at + i]`. The error is `Memory`.
 pub fn compare_windows<L: Copy, R: Copy, E: Comparison<L, R>>(
     alloc: Global,
     comparison: &E,
@@ -115,7 +118,8 @@ pub fn compare_windows<L: Copy, R: Copy, E: Comparison<L, R>>(
     )
 }
 
-/// Sets each bit to its AND with the comparison of the elements at its place. Does not allocate.
+/// Sets each bit to its AND with the comparison of the elements of `left` and `right` at the same
+/// index. Does not allocate.
 pub fn and_pairs<L: Copy, R: Copy, E: Comparison<L, R>>(
     bits: &mut MutableBitmap,
     comparison: &E,
@@ -133,7 +137,7 @@ pub fn and_pairs<L: Copy, R: Copy, E: Comparison<L, R>>(
     });
 }
 
-// A comparison of a slice with one element.
+// The comparison of each element of `left` with the single element `right`.
 #[derive(Drop)]
 struct Against<'a, L, R, E> {
     comparison: &'a E,
@@ -160,7 +164,8 @@ impl<'a, L: Copy, R: Copy, E: Comparison<L, R>> TruthValues for Against<'a, L, R
     }
 }
 
-/// Compares each element of a slice with `right`. The error is `Memory`.
+/// Compares each element of a slice with `right`. Bit `i` of the result is true if the comparison
+/// holds for `left[i]` and `right`. The error is `Memory`.
 pub fn compare_constant<L: Copy, R: Copy, E: Comparison<L, R>>(
     alloc: Global,
     comparison: &E,

@@ -13,30 +13,30 @@ use polars_arrays_bits::bitmap::Bitmap;
 use polars_arrays_bits::error::ComputeError;
 use std::alloc::Global;
 
-/// An array: stored rows, and a mask that says which of them are null. A row is null if it is
-/// masked, and the stored row otherwise.
+/// An array of rows. It stores a row in each slot, and has a mask that says which rows are present.
+/// A row is null if its bit of the mask is 0; otherwise it is the stored row.
 ///
-/// The mask is the validity that the array stores, except in dictionaries, whose entries may be
-/// null too. Kernels read the mask.
+/// The mask is the validity that the array stores, except in a dictionary: its mask is 0 also for a
+/// present key whose entry is null. Kernels read the mask.
 pub trait Array {
-    // Stored rows, whatever the validity.
+    // The stored rows, also those under nulls.
     ghost slots: { Self → List Row };
 
-    // Validity that the array stores, if any.
+    // The validity that the array stores, if any.
     ghost validity_bits: { Self → Option (List Bool) };
 
-    // Present rows: a bit for each row, or None if all are present. Only the mask defines which
-    // rows are null.
+    // The mask: a bit for each row, 1 if the row is present, or None if no row is masked. Only the
+    // mask defines which of the stored rows are replaced by null.
     ghost mask: { Self → Option (List Bool) };
 
-    // Number of rows that are null by the validity.
+    // The number of rows that are null by the validity.
     ghost nulls: { Self → ℕ };
 
-    // Equality of the types of two arrays.
+    // Holds if two arrays have the same type.
     ghost same_type: { Self → Self → Type 0 };
 
-    // Soundness of nested arrays, which their type does not guarantee: the parts make an array on
-    // each level. An array of one level is always good.
+    // Holds if the array is good, that is, if its parts make an array on each level. The type of a
+    // nested array does not guarantee this. An array without child arrays is always good.
     ghost good: { Self → Type 0 };
 
     /// Returns the number of rows.
@@ -44,30 +44,33 @@ pub trait Array {
         ensures { result ≡ length (slots self.now) };
 
     /// Returns the validity that the array stores: a bit for each row, 0 if the row is masked (the
-    /// Arrow layout), or `None` if no row is.
+    /// Arrow layout). Returns `None` if the array stores no validity.
     fn validity(&self) -> Option<&Bitmap>
         requires good { good self.now }
         ensures validity { option_copied result ≡ validity_bits self.now }
         ensures bits { HasBits (length (slots self.now)) (validity_bits self.now) };
 
-    /// Returns the mask, borrowed from the array or computed. The error is `Memory`.
+    /// Returns the mask of all rows. Borrows the bits from the array, or computes them. The error
+    /// is `Memory`.
     fn missing_mask(&self, alloc: Global) -> Result<Mask<'_>, ComputeError>
         requires good { good self.now }
         ensures mask { MatchResult result (λ present. present ≡ mask self.now) IsMemory }
         ensures bits { HasBits (length (slots self.now)) (mask self.now) };
 
-    /// Returns the number of rows that are null by the validity.
+    /// Returns the number of rows that are null by the validity. A present key of a dictionary is
+    /// not counted, even if its entry is null.
     fn null_count(&self) -> usize
         ensures nulls { result ≡ nulls self.now }
         ensures rows { good self.now → result
             ≡ null_total (rows_under (validity_bits self.now) (slots self.now)) };
 
-    // Rows are stored as Null only in types whose arrays have no validity.
+    // Only types whose arrays have no validity store rows as Null.
     ghost null_law: { (a b : Self) (i : ℕ)
         → NullSlots (slots a) (mask a) (mask b) (same_type a b × same_type b a) i };
 }
 
 /// States a law of every array: a row is the stored one if it is present, and null if it is masked.
+/// Does nothing at run time.
 #[tactic(auto, using(crate::proofs::RowWindows::places))]
 pub fn law_rows()
     ensures { MasksByPlace }

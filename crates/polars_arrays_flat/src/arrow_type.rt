@@ -1,4 +1,4 @@
-//! Number types whose arrays have an Arrow type.
+//! Number types that have an Arrow type.
 
 ghost use Rattle.std.specs.Prelude.{◌≡◌};
 ghost use Rattle.polars_arrays_flat.specs.DataType.{kind_of};
@@ -9,9 +9,9 @@ ghost use Rattle.polars_arrays_flat.specs.Kind.{UInt64Kind, UInt128Kind};
 use crate::data_type::ArrowDataType;
 use polars_arrays_numbers::native_type::NativeType;
 
-/// A number type whose arrays have an Arrow type.
+/// A number type that has an Arrow type, as `i32` has `Int32`.
 pub trait ArrowType: NativeType {
-    // Kind of an array of these numbers.
+    // The kind of an array of these numbers.
     ghost kind: { Kind };
 
     /// Returns the type of an array of these numbers.

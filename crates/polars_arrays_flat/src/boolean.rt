@@ -42,8 +42,8 @@ impl Model for BooleanArray {
 }
 
 impl BooleanArray {
-    /// Creates an array of stored values and a validity. The error is `Length`, if the validity
-    /// does not have a bit for each value.
+    /// Creates an array of stored values and a validity. The error is `Length`, which says that the
+    /// validity does not have one bit per value.
     pub fn try_new(values: Bitmap, validity: Option<Bitmap>) -> Result<BooleanArray, ArrayError>
         ensures made { OkIff result (HasBits (length values) validity)
             (record { values = values; validity = validity }) }
@@ -63,7 +63,7 @@ impl BooleanArray {
         &self.values
     }
 
-    /// Keeps the `n` rows from row `at` on. No value is moved.
+    /// Slices the array in place: only the `n` rows from row `at` on remain. No value is moved.
     #[tactic(auto, using(crate::proofs::RowWindows::windows))]
     pub fn slice(&mut self, at: usize, n: usize)
         requires { at + n ≤ length self.old.values }
@@ -88,7 +88,7 @@ impl BooleanArray {
         Ok(BooleanArray { values, validity })
     }
 
-    /// Returns the array's type. Does not allocate, so it succeeds always.
+    /// Returns the array's type. Always succeeds, since it does not allocate.
     pub fn dtype(&self, _alloc: Global) -> Result<ArrowDataType, ComputeError>
         ensures dtype { MatchResult result (λ dtype. kind_of dtype ≡ BooleanKind) IsMemory }
         ensures succeeds { IsOk result }

@@ -1,5 +1,5 @@
-//! Comparisons of byte strings that begin longer slices. Strings of up to sixteen bytes are
-//! compared as one block.
+//! Comparisons of byte strings that are the beginnings of longer slices. Strings of at most sixteen
+//! bytes are compared as one block of sixteen bytes.
 
 ghost use Rattle.std.specs.Prelude.{◌≡◌, ◌≢◌, ◌≤◌, ◌<◌, ℕ, IsTrue, length, take, get_or};
 ghost use Rattle.std.specs.Str.{bytes_eq};
@@ -12,8 +12,8 @@ use std::simd::prelude::*;
 /// The number of bytes of a block.
 pub const BLOCK_BYTES: usize = 16;
 
-/// Returns whether the first `n` bytes of `left` are the first `m` bytes of `right`. Up to sixteen
-/// bytes are compared as one block, if both slices have that many.
+/// Returns whether the first `n` bytes of `left` equal the first `m` bytes of `right`. Compares one
+/// block if `n` and `m` are at most 16 and both slices have at least 16 bytes.
 #[inline(always)]
 pub fn beginnings_equal(left: &[u8], n: usize, right: &[u8], m: usize) -> bool
     requires left_in { n ≤ length left.now }
@@ -30,8 +30,8 @@ pub fn beginnings_equal(left: &[u8], n: usize, right: &[u8], m: usize) -> bool
 }
 
 /// Returns whether the first `n` bytes of `left` are less than the first `m` bytes of `right`, in
-/// the order of `bytes_less`. Up to sixteen bytes are compared as one block, if both slices have
-/// that many.
+/// the order of `bytes_less`. Compares one block if `n` and `m` are at most 16 and both slices have
+/// at least 16 bytes.
 #[inline(always)]
 pub fn beginnings_less(left: &[u8], n: usize, right: &[u8], m: usize) -> bool
     requires left_in { n ≤ length left.now }
@@ -41,15 +41,16 @@ pub fn beginnings_less(left: &[u8], n: usize, right: &[u8], m: usize) -> bool
     if in_blocks(left, n, right, m) {
         let k = same_places(left, right);
         let common = n.min(m);
-        // If the blocks are equal, `k` is past the end. The last place stands in for it; its bytes
-        // then have no effect.
+        // If the blocks are equal, `k` is not an index of a block. The last index is then read in
+        // its place; the bytes there have no effect on the result.
         let place = k.min(BLOCK_BYTES - 1);
         return ((k < common) & (left[place] < right[place])) | ((k >= common) & (n < m));
     }
     bytes_less(&left[..n], &right[..m])
 }
 
-/// Returns a block that begins with the bytes, for a string that many others are compared with.
+/// Returns a block that begins with `bytes`. A string that is compared with many others is copied
+/// to a block first, so that `beginnings_equal` and `beginnings_less` can read it as one.
 pub fn block_of(bytes: &[u8]) -> [u8; BLOCK_BYTES]
     requires { length bytes.now ≤ 16 }
     ensures { take (length bytes.now) result ≡ bytes.now }
@@ -59,7 +60,7 @@ pub fn block_of(bytes: &[u8]) -> [u8; BLOCK_BYTES]
     block
 }
 
-// Returns whether both strings fit in a block, and both slices have one.
+// Returns whether both strings fit in a block, and both slices have the bytes of a block.
 #[inline(always)]
 fn in_blocks(left: &[u8], n: usize, right: &[u8], m: usize) -> bool
     ensures { IsTrue result → (n ≤ 16) × (m ≤ 16) × (16 ≤ length left.now)
@@ -68,7 +69,8 @@ fn in_blocks(left: &[u8], n: usize, right: &[u8], m: usize) -> bool
     (n.max(m) <= BLOCK_BYTES) & (left.len().min(right.len()) >= BLOCK_BYTES)
 }
 
-// Returns the number of equal leading bytes of two blocks, or at least sixteen if they are equal.
+// Returns the number of leading bytes that are equal in two blocks. Returns 16 or more if the
+// blocks are equal.
 #[inline(always)]
 fn same_places(left: &[u8], right: &[u8]) -> usize
     requires left_in { 16 ≤ length left.now }

@@ -5,9 +5,9 @@ ghost use Rattle.std.specs.Int.{w32, w64, from_le_bytes, to_le_bytes};
 ghost use Rattle.std.specs.Str.{bytes_eq};
 ghost use Rattle.polars_arrays_flat.specs.Validity.{window};
 
-/// Returns whether two byte strings are equal. If the shorter one has up to 16 bytes, these are
-/// compared as numbers, whatever the length of the other: a branch on equal lengths would often be
-/// mispredicted.
+/// Returns whether two byte strings are equal. If the shorter one has 4 to 16 bytes, its bytes are
+/// compared as two pairs of numbers, even if the lengths differ. A branch on equal lengths would
+/// often be mispredicted.
 #[inline(always)]
 pub fn bytes_equal(left: &[u8], right: &[u8]) -> bool
     ensures { result ≡ bytes_eq left.now right.now }
@@ -24,7 +24,8 @@ pub fn bytes_equal(left: &[u8], right: &[u8]) -> bool
     }
 }
 
-// Returns whether the first `n` bytes are equal, by the first four and the last four.
+// Returns whether the first `n` bytes are equal. `n` is 4 to 8. Compares the first four and the
+// last four of these bytes as numbers; the two may overlap.
 #[inline(always)]
 fn same_fours(left: &[u8], right: &[u8], n: usize) -> bool
     requires some { 4 ≤ n }
@@ -38,7 +39,8 @@ fn same_fours(left: &[u8], right: &[u8], n: usize) -> bool
     same_start & same_end
 }
 
-// Returns whether the first `n` bytes are equal, by the first eight and the last eight.
+// Returns whether the first `n` bytes are equal. `n` is 8 to 16. Compares the first eight and the
+// last eight of these bytes as numbers; the two may overlap.
 #[inline(always)]
 fn same_eights(left: &[u8], right: &[u8], n: usize) -> bool
     requires some { 8 ≤ n }
@@ -52,7 +54,7 @@ fn same_eights(left: &[u8], right: &[u8], n: usize) -> bool
     same_start & same_end
 }
 
-// Returns the four bytes from place `at` on as a little-endian number.
+// Returns the four bytes from index `at` on as a little-endian number.
 #[inline(always)]
 fn four_at(bytes: &[u8], at: usize) -> u32
     requires { at + 4 ≤ length bytes.now }
@@ -62,7 +64,7 @@ fn four_at(bytes: &[u8], at: usize) -> u32
     u32::from_le_bytes([bytes[at], bytes[at + 1], bytes[at + 2], bytes[at + 3]])
 }
 
-// Returns the eight bytes from place `at` on as a little-endian number.
+// Returns the eight bytes from index `at` on as a little-endian number.
 #[inline(always)]
 fn eight_at(bytes: &[u8], at: usize) -> u64
     requires { at + 8 ≤ length bytes.now }

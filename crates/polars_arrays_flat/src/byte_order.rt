@@ -1,4 +1,4 @@
-//! The order of byte strings, several bytes at a time.
+//! The lexicographic order of byte strings, compared several bytes at a time.
 
 ghost use Rattle.std.specs.Prelude.{◌≡◌, ◌≤◌, ◌<◌, ◌+◌, ◌-◌, ◌*◌, ℕ, List, length, take, drop, min};
 ghost use Rattle.std.specs.Cmp.Lexicographic.{slice_cmp};
@@ -6,8 +6,8 @@ ghost use Rattle.std.specs.Int.{w32, w64, from_be_bytes};
 ghost use Rattle.std.specs.Ordering.{nat_cmp, is_lt, ordering_then};
 ghost use Rattle.polars_arrays_flat.specs.ByteOrder.{AreBytes, bytes_lt, few_number};
 
-/// Returns whether the left byte string is less: at the first place where they differ, or as a
-/// proper prefix.
+/// Returns whether `left` is less than `right`. The first byte that differs decides. If there is
+/// none, the shorter string is less.
 #[inline(always)]
 pub fn bytes_less(left: &[u8], right: &[u8]) -> bool
     ensures { result ≡ bytes_lt left.now right.now }
@@ -24,8 +24,8 @@ pub fn bytes_less(left: &[u8], right: &[u8]) -> bool
     pair_less(u64::from(p), u64::from(q), left.len(), right.len())
 }
 
-/// Returns whether `(p, n)` is less than `(q, m)`: by the first numbers, or by the second ones if
-/// the first are equal.
+/// Returns whether `(p, n)` is less than `(q, m)`: `p` and `q` decide, or `n` and `m` if `p` equals
+/// `q`.
 #[inline(always)]
 pub fn pair_less(p: u64, q: u64, n: usize, m: usize) -> bool
     ensures { result ≡ is_lt (ordering_then (nat_cmp p q) (nat_cmp n m)) }
@@ -33,7 +33,8 @@ pub fn pair_less(p: u64, q: u64, n: usize, m: usize) -> bool
     (p < q) | ((p == q) & (n < m))
 }
 
-// Returns the result of `bytes_less`, for byte strings that have more than eight places in common.
+// Returns whether `left` is less than `right`, in the order of `bytes_less`. `common` is the length
+// of the shorter string, which has more than eight bytes.
 #[inline]
 fn long_less(left: &[u8], right: &[u8], common: usize) -> bool
     requires common { common ≡ min (length left.now) (length right.now) }
@@ -51,7 +52,8 @@ fn long_less(left: &[u8], right: &[u8], common: usize) -> bool
     pair_less(p, q, left.len(), right.len())
 }
 
-// Returns the first four and the last four of `n` bytes as a big-endian number.
+// Returns a big-endian number of eight bytes: the first four and the last four of the first `n`
+// bytes.
 #[inline(always)]
 fn ends(bytes: &[u8], n: usize) -> u64
     requires some { 4 ≤ n }
@@ -64,8 +66,8 @@ fn ends(bytes: &[u8], n: usize) -> u64
     u64::from(four_at(bytes, 0)) * 4294967296 + u64::from(four_at(bytes, n - 4))
 }
 
-// Returns the first, the middle and the last of up to three bytes as a big-endian number, or 0 for
-// none.
+// Returns a big-endian number of the first, the middle and the last of the first `n` bytes, which
+// are at most three. Returns 0 if `n` is 0.
 #[inline(always)]
 fn few(bytes: &[u8], n: usize) -> u32
     requires few { n < 4 }
@@ -79,7 +81,7 @@ fn few(bytes: &[u8], n: usize) -> u32
     u32::from_be_bytes([0, bytes[0], bytes[n / 2], bytes[n - 1]])
 }
 
-// Returns the four bytes from a place on as a big-endian number.
+// Returns the four bytes from index `at` on as a big-endian number.
 #[inline(always)]
 fn four_at(bytes: &[u8], at: usize) -> u32
     requires { at + 4 ≤ length bytes.now }
@@ -90,7 +92,7 @@ fn four_at(bytes: &[u8], at: usize) -> u32
     u32::from_be_bytes([b[0], b[1], b[2], b[3]])
 }
 
-// Returns the eight bytes from a place on as a big-endian number.
+// Returns the eight bytes from index `at` on as a big-endian number.
 #[inline(always)]
 fn eight_at(bytes: &[u8], at: usize) -> u64
     requires { at + 8 ≤ length bytes.now }

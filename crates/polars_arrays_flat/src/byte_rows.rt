@@ -5,8 +5,8 @@ ghost use Rattle.polars_arrays_flat.specs.StoredRows.{byte_slots};
 
 use crate::array::Array;
 
-/// An array that stores byte strings, or texts as their UTF-8. They are read by place, whatever the
-/// validity.
+/// An array that stores byte strings, or texts as UTF-8. The strings are read by index, also under
+/// nulls.
 pub trait ByteRows: Array {
     // The byte strings, the first one first.
     ghost strings: { Self → List (List ℕ) };
@@ -15,13 +15,14 @@ pub trait ByteRows: Array {
     fn count(&self) -> usize
         ensures { result ≡ length (strings self.now) };
 
-    /// Returns the byte string at place `i`.
+    /// Returns the byte string at index `i`, also if its row is null.
     fn bytes(&self, i: usize) -> &[u8]
         requires { i < length (strings self.now) }
         ensures { result.now ≡ slice_index_or (strings self.now) i [] };
 
-    /// Returns a slice that begins with the byte string at place `i` and may be longer, and the
-    /// string's length. A short string can then be read as one block.
+    /// Returns a slice that begins with the byte string at index `i`, and the string's length in
+    /// bytes. The slice may be longer than the string, so that a short string can be read as one
+    /// block.
     #[inline(always)]
     fn bytes_on(&self, i: usize) -> (&[u8], usize)
         requires { i < length (strings self.now) }

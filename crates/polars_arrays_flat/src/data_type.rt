@@ -4,7 +4,7 @@ ghost use Rattle.std.specs.Prelude.{◌≡◌, ◌↔◌, IsTrue};
 ghost use Rattle.polars_arrays_flat.specs.DataType.{key_kind, kind_of, kinds_of, IsSameField};
 ghost use Rattle.polars_arrays_flat.specs.Kind.{StructKind};
 
-/// The type of a dictionary's keys.
+/// The integer type of a dictionary's keys.
 #[derive(Clone, Copy, PartialEq, Eq, Debug)]
 pub enum IntegerType {
     Int8,
@@ -18,8 +18,8 @@ pub enum IntegerType {
 }
 
 /// The type of an array, named as in the Arrow format. Lists have the type of their items,
-/// `FixedSizeBinary` the number of bytes a row, `FixedSizeList` the number of items a row, and
-/// `Dictionary` the types of its keys and of its entries.
+/// `FixedSizeBinary` has the number of bytes per row, `FixedSizeList` the type of its items and the
+/// number of items per row, and `Dictionary` the types of its keys and of its entries.
 #[cycle(data_type)]
 #[derive(Drop)]
 pub enum ArrowDataType {
@@ -58,8 +58,8 @@ pub struct Field {
 }
 
 impl ArrowDataType {
-    /// Returns whether two types are equal: in name and size, in the types of items, keys and
-    /// entries, and in the names and types of fields, in the same order. Does not allocate.
+    /// Returns whether two types are equal. Compares sizes, the types of items, keys and entries,
+    /// and the names and types of fields in order, down to the leaves. Does not allocate.
     #[cycle(same_kind)]
     pub fn same_kind(&self, other: &ArrowDataType) -> bool
         ensures { IsTrue result ↔ (kind_of self.now ≡ kind_of other.now) }
@@ -140,7 +140,7 @@ impl PartialEq for Field {
     }
 }
 
-/// Returns whether a type is a struct of the given fields.
+/// Returns whether `dtype` is the type of a struct with exactly these fields, in the same order.
 #[cycle(same_kind)]
 pub fn is_struct_of(fields: &[Field], dtype: &ArrowDataType) -> bool
     ensures { IsTrue result ↔ (StructKind (kinds_of fields.now) ≡ kind_of dtype.now) }
@@ -151,7 +151,8 @@ pub fn is_struct_of(fields: &[Field], dtype: &ArrowDataType) -> bool
     }
 }
 
-/// Returns whether two lists of fields have equal names and types in the same order.
+/// Returns whether two lists of fields have the same length, the same names and the same types, in
+/// the same order.
 #[cycle(same_kind)]
 pub fn same_fields(left: &[Field], right: &[Field]) -> bool
     ensures { IsTrue result ↔ (kinds_of left.now ≡ kinds_of right.now) }

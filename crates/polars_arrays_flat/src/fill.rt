@@ -7,7 +7,7 @@ use polars_arrays_bits::buffer::Buffer;
 use polars_arrays_bits::error::ComputeError;
 use std::alloc::Global;
 
-// Creates a buffer of `len` elements that are all `value`.
+// Creates a buffer of `len` elements that are all `value`. The error is `Memory`.
 pub(crate) fn repeated<T: Copy>(
     alloc: Global,
     value: T,
@@ -23,8 +23,9 @@ pub(crate) fn repeated<T: Copy>(
     Ok(Buffer::from_vec(elements))
 }
 
-// Returns a buffer of the same length whose elements are all `value`. Writes in place if the buffer
-// owns its elements, and creates a new buffer otherwise.
+// Replaces each element of a buffer by `value`. Overwrites the elements if the buffer owns its
+// memory, and then always succeeds. Otherwise creates a buffer of the same length; the error is
+// `Memory`.
 pub(crate) fn filled<T: Copy>(
     alloc: Global,
     mut buffer: Buffer<T>,
@@ -42,7 +43,7 @@ pub(crate) fn filled<T: Copy>(
     Ok(buffer)
 }
 
-// Writes `value` over each element.
+// Sets each element to `value`.
 fn overwrite<T: Copy>(elements: &mut [T], value: T)
     ensures { elements.new ≡ replicate (length elements.old) value }
 {

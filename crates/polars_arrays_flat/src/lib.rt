@@ -1,4 +1,4 @@
-//! Arrays of one level: stored values and an optional validity.
+//! Arrays without child arrays: stored values and an optional validity.
 #![tactic(auto)]
 
 pub mod array;

@@ -1,4 +1,4 @@
-//! Masks: the present rows of an array.
+//! Masks: bits that say which rows of an array are present.
 
 ghost use Rattle.std.specs.Prelude.{◌≡◌, ◌+◌, ◌≤◌, ◌↔◌, Some, None, IfSome, IsTrue, length};
 ghost use Rattle.std.specs.Option.{option_copied};
@@ -8,7 +8,7 @@ use polars_arrays_bits::bit_mask::BitMask;
 use polars_arrays_bits::bitmap::Bitmap;
 use std::marker::Model;
 
-// The bits of a mask.
+// The bits of a mask: none, borrowed or owned.
 #[derive(Drop)]
 pub(crate) enum Kept<'a> {
     All,
@@ -16,8 +16,8 @@ pub(crate) enum Kept<'a> {
     Owned(Bitmap),
 }
 
-/// A mask: a bit for each row, set if the row is present, or no bits if all rows are. The bits are
-/// borrowed from an array, or owned.
+/// A mask: a bit for each row, 1 if the row is present. A mask without bits says that all rows are
+/// present. The bits are owned, or borrowed from an array.
 #[derive(Drop)]
 pub struct Mask<'a> {
     kept: Kept<'a>,
@@ -33,7 +33,7 @@ impl<'a> Model for Mask<'a> {
 }
 
 impl<'a> Mask<'a> {
-    /// Creates a mask in which all rows are present.
+    /// Creates a mask without bits: all rows are present.
     #[inline(always)]
     pub fn all() -> Mask<'a>
         ensures { result ≡ None }
@@ -41,7 +41,8 @@ impl<'a> Mask<'a> {
         Mask { kept: Kept::All }
     }
 
-    /// Borrows the bits of a validity.
+    /// Creates a mask that borrows the bits of a validity. Without a validity, all rows are
+    /// present.
     #[inline(always)]
     pub fn lent(validity: Option<&'a Bitmap>) -> Mask<'a>
         ensures { result ≡ option_copied validity.entry }
@@ -53,7 +54,7 @@ impl<'a> Mask<'a> {
         Mask { kept }
     }
 
-    /// Borrows the bits of the `n` rows from row `at` on.
+    /// Creates a mask that borrows the bits of the `n` rows from row `at` on.
     #[inline(always)]
     pub fn lent_window(bits: &'a Bitmap, at: usize, n: usize) -> Mask<'a>
         requires { at + n ≤ length bits.now }
@@ -73,7 +74,7 @@ impl<'a> Mask<'a> {
         }
     }
 
-    /// Returns the bits, or `None` if all rows are present.
+    /// Returns the bits, or `None` if the mask has no bits, so that all rows are present.
     #[inline(always)]
     pub fn bits(&self) -> Option<BitMask<'_>>
         ensures { result ≡ self.now }
@@ -85,14 +86,16 @@ impl<'a> Mask<'a> {
         }
     }
 
-    /// Returns whether there are no bits, so that all rows are present.
+    /// Returns whether the mask has no bits, so that all rows are present. A mask whose bits are
+    /// all 1 gives `false`.
     pub fn is_all(&self) -> bool
         ensures { IsTrue result ↔ (self.now ≡ None) }
     {
         matches!(self.kept, Kept::All)
     }
 
-    /// Returns whether row `i` exists and is present.
+    /// Returns whether row `i` is present. Returns `false` if the mask has bits, but none for row
+    /// `i`.
     pub fn is_present(&self, i: usize) -> bool
         ensures { result ≡ is_present self.now i }
     {

@@ -15,7 +15,7 @@ use polars_arrays_bits::error::ComputeError;
 use std::alloc::Global;
 use std::marker::Model;
 
-/// An array whose rows are all null. Contracts see it as its number of rows.
+/// An array whose rows are all null. In contracts its value is the number of rows.
 #[derive(Drop)]
 pub struct NullArray {
     len: usize,
@@ -37,7 +37,7 @@ impl NullArray {
         NullArray { len }
     }
 
-    /// Keeps the `n` rows from row `at` on.
+    /// Slices the array in place: only the `n` rows from row `at` on remain.
     #[tactic(auto, using(crate::proofs::RowWindows::windows))]
     pub fn slice(&mut self, at: usize, n: usize)
         requires { at + n ≤ self.old }
@@ -47,7 +47,7 @@ impl NullArray {
         self.len = n;
     }
 
-    /// Clones the array. Does not allocate, so it succeeds always.
+    /// Clones the array. Always succeeds, since it does not allocate.
     pub fn clone_array(&self, _alloc: Global) -> Result<NullArray, ComputeError>
         ensures copy { MatchResult result (λ copy. copy ≡ self.now) IsMemory }
         ensures succeeds { IsOk result }
@@ -55,7 +55,7 @@ impl NullArray {
         Ok(NullArray { len: self.len })
     }
 
-    /// Returns the array's type. Does not allocate, so it succeeds always.
+    /// Returns the array's type. Always succeeds, since it does not allocate.
     pub fn dtype(&self, _alloc: Global) -> Result<ArrowDataType, ComputeError>
         ensures dtype { MatchResult result (λ dtype. kind_of dtype ≡ NullKind) IsMemory }
         ensures succeeds { IsOk result }

@@ -52,15 +52,16 @@ impl<T: Copy> Model for PrimitiveArray<T> {
 impl<T: Copy> PrimitiveArray<T> {
     ghost use Rattle.polars_arrays_flat.specs.NumbersLends.{lends_values, lends_values_if};
 
-    /// Returns whether no other array shares the stored values.
+    /// Returns whether the array owns its stored values, so that they may be written. Values that
+    /// were shared once are never owned again.
     pub fn is_owned(&self) -> bool
         ensures { result ≡ self.now.owned }
     {
         self.values.is_owned()
     }
 
-    /// Borrows the stored values, including those of masked rows, for writing. The array must own
-    /// them.
+    /// Mutably borrows the stored values, including those of masked rows. The array must own its
+    /// values.
     pub fn as_mut_values(&mut self) -> &mut [T]
         requires { IsTrue self.old.owned }
         ensures* written { sem 𝓛 (lends_values T.row self.entry result) }
@@ -69,7 +70,7 @@ impl<T: Copy> PrimitiveArray<T> {
         self.values.as_mut_slice()
     }
 
-    // Returns the result of `is_owned`, through a `&mut`.
+    // Returns whether the array owns its values. Takes `&mut self`, unlike `is_owned`.
     fn owns(&mut self) -> bool
         ensures unchanged { self.new ≡ self.old }
         ensures owned { result ≡ self.old.owned }
@@ -77,8 +78,8 @@ impl<T: Copy> PrimitiveArray<T> {
         self.is_owned()
     }
 
-    /// Borrows the stored values, including those of masked rows, for writing, or returns `None` if
-    /// they are shared.
+    /// Mutably borrows the stored values, including those of masked rows. Returns `None` if the
+    /// values are shared.
     pub fn get_mut_values(&mut self) -> Option<&mut [T]>
         ensures* written { sem 𝓛 (lends_values_if T.row self.entry result) }
         ensures owned { IsSome result ↔ IsTrue self.old.owned }
@@ -93,8 +94,8 @@ impl<T: Copy> PrimitiveArray<T> {
 }
 
 impl<T: NativeType> PrimitiveArray<T> {
-    /// Creates an array of stored values and a validity. The error is `Length`, if the validity
-    /// does not have a bit for each value.
+    /// Creates an array of stored values and a validity. The error is `Length`, which says that the
+    /// validity does not have one bit per value.
     pub fn try_new(
         values: Buffer<T>,
         validity: Option<Bitmap>,
@@ -111,7 +112,7 @@ impl<T: NativeType> PrimitiveArray<T> {
         Ok(PrimitiveArray { values, validity })
     }
 
-    /// Creates an array of a vector's numbers, without a validity.
+    /// Creates an array of a vector's numbers, without a validity: all rows are present.
     pub fn from_vec(values: Vec<T>) -> PrimitiveArray<T>
         ensures stored { result ≡ record { values = values.items; validity = None; owned = true } }
         ensures rows { number_rows T.value result ≡ number_slots T.value values.items }
@@ -129,7 +130,7 @@ impl<T: NativeType> PrimitiveArray<T> {
         self.values.as_slice()
     }
 
-    /// Keeps the `n` rows from row `at` on. No value is moved.
+    /// Slices the array in place: only the `n` rows from row `at` on remain. No value is moved.
     #[tactic(auto, using(crate::proofs::RowWindows::windows))]
     pub fn slice(&mut self, at: usize, n: usize)
         requires { at + n ≤ length self.old.values }
@@ -156,7 +157,7 @@ impl<T: NativeType> PrimitiveArray<T> {
         self.validity.take()
     }
 
-    /// Replaces the validity.
+    /// Replaces the validity. A new validity must have one bit per row.
     pub fn with_validity(self, validity: Option<Bitmap>) -> PrimitiveArray<T>
         requires { HasBits (length self.values) validity }
         ensures stored { result ≡ record self { validity = validity } }
@@ -167,8 +168,9 @@ impl<T: NativeType> PrimitiveArray<T> {
         PrimitiveArray { values, validity }
     }
 
-    /// Makes the stored values shared: later clones share them instead of copying. No value is
-    /// moved. The error is `Memory`, which only an array that owns its values can cause.
+    /// Converts to an array whose stored values are shared: later clones use the same values
+    /// instead of copying them. No value is moved. Succeeds always if the values are shared
+    /// already. Otherwise the error is `Memory`.
     pub fn share(self, alloc: Global) -> Result<PrimitiveArray<T>, ComputeError>
         ensures stored { MatchResult result
             (λ shared. shared ≡ record self { owned = false }) IsMemory }
@@ -181,7 +183,7 @@ impl<T: NativeType> PrimitiveArray<T> {
         Ok(PrimitiveArray { values, validity })
     }
 
-    /// Clones the array. Shared values are not copied. The error is `Memory`.
+    /// Clones the array. Owned values are copied, shared ones are not. The error is `Memory`.
     pub fn clone_array(&self, alloc: Global) -> Result<PrimitiveArray<T>, ComputeError>
         ensures { MatchResult result (λ copy. copy ≡ self.now) IsMemory }
     {
@@ -192,7 +194,7 @@ impl<T: NativeType> PrimitiveArray<T> {
 }
 
 impl<T: ArrowType> PrimitiveArray<T> {
-    /// Returns the array's type. Does not allocate, so it succeeds always.
+    /// Returns the array's type. Always succeeds, since it does not allocate.
     pub fn dtype(&self, _alloc: Global) -> Result<ArrowDataType, ComputeError>
         ensures dtype { MatchResult result (λ dtype. kind_of dtype ≡ T.kind) IsMemory }
         ensures succeeds { IsOk result }
@@ -202,9 +204,9 @@ impl<T: ArrowType> PrimitiveArray<T> {
 }
 
 impl<T: NativeType> PrimitiveArray<T> {
-    /// Sets all stored values to `value`, and keeps the validity. If the array owns its values,
-    /// they are overwritten in place, and there is no error. Otherwise new ones are allocated, and
-    /// the error is `Memory`.
+    /// Sets all stored values to `value`, and leaves the validity unchanged. If the array owns its
+    /// values, they are overwritten in place, which always succeeds. Otherwise new values are
+    /// allocated, and the error is `Memory`.
     #[tactic(auto, using(crate::proofs::RowWindows::fills))]
     pub fn fill_with(self, alloc: Global, value: T) -> Result<PrimitiveArray<T>, ComputeError>
         ensures stored { MatchResult result

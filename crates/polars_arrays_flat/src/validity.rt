@@ -1,4 +1,4 @@
-//! Functions of an optional validity.
+//! Functions of an optional validity. Without a validity, all rows are present.
 
 ghost use Rattle.std.specs.Prelude.{◌≡◌, ◌↔◌, ◌+◌, ◌≤◌, ◌<◌, ℕ, List, IsTrue, IfSome, MatchResult};
 ghost use Rattle.std.specs.Prelude.{length};
@@ -14,7 +14,7 @@ use polars_arrays_bits::bitmap::Bitmap;
 use polars_arrays_bits::error::ComputeError;
 use std::alloc::Global;
 
-/// Returns whether a validity, if there is one, has `len` bits.
+/// Returns whether a validity has exactly `len` bits. Returns `true` if there is no validity.
 pub fn has_bits(len: usize, validity: &Option<Bitmap>) -> bool
     ensures { IsTrue result ↔ HasBits len validity.now }
 {
@@ -24,7 +24,7 @@ pub fn has_bits(len: usize, validity: &Option<Bitmap>) -> bool
     }
 }
 
-/// Returns whether row `i` is present. A validity, if there is one, must have a bit for it.
+/// Returns whether row `i` is present. If there is a validity, it must have a bit for the row.
 #[inline]
 pub fn is_present(validity: Option<&Bitmap>, i: usize) -> bool
     requires { IfSome (option_copied validity) (λ bits. i < length bits) }
@@ -33,7 +33,8 @@ pub fn is_present(validity: Option<&Bitmap>, i: usize) -> bool
     validity.is_none_or(|bits| bits.get_bit(i))
 }
 
-/// Returns the number of masked rows. If the stored rows are byte strings, these are the null rows.
+/// Returns the number of masked rows, which is 0 without a validity. If the stored rows are byte
+/// strings, these are the null rows.
 #[tactic(auto, using(crate::proofs::NullCounts::nulls_counted))]
 pub fn null_count(validity: &Option<Bitmap>) -> usize
     ensures masked { result ≡ masked_count validity.now }
@@ -46,7 +47,8 @@ pub fn null_count(validity: &Option<Bitmap>) -> usize
     }
 }
 
-/// Keeps the bits of the `n` rows from row `at` on.
+/// Slices a validity in place: only the bits of the `n` rows from row `at` on remain. Does nothing
+/// if there is no validity.
 #[tactic(auto, using(crate::proofs::RowWindows::windows))]
 pub fn slice_validity(validity: &mut Option<Bitmap>, at: usize, n: usize)
     requires { IfSome validity.old (λ bits. at + n ≤ length bits) }
@@ -59,7 +61,7 @@ pub fn slice_validity(validity: &mut Option<Bitmap>, at: usize, n: usize)
     }
 }
 
-/// Clones a validity. The error is `Memory`.
+/// Clones a validity, if there is one. The error is `Memory`.
 pub fn clone_validity(
     alloc: Global,
     validity: &Option<Bitmap>,

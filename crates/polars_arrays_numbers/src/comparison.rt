@@ -1,28 +1,29 @@
-//! Comparisons of two elements.
+//! Comparisons of two elements, such as "equal" and "less".
 ghost use Rattle.std.specs.Prelude.{◌≡◌, Bool, not, int_lt, int_le};
 ghost use Rattle.std.specs.Ordering.{int_eq};
 
 use crate::native_type::{NativeType, has_wide_values};
 
-/// A comparison of a left and a right element.
+/// A comparison of a left element with a right element.
 pub trait Comparison<L, R> {
     // Truth of the comparison for two elements.
     ghost holds: { Self → L → R → Bool };
 
-    /// Returns whether the comparison holds of two elements.
+    /// Returns whether the comparison holds for `left` and `right`.
     fn compare(&self, left: L, right: R) -> bool
         ensures { result ≡ holds self.now left right };
 
-    /// Returns whether results are packed into bits eight at a time, in registers. Otherwise each
-    /// is first written to a byte, and a vector operation packs many bytes at once. Registers are
-    /// faster for elements of more than 64 bits. The results are the same either way.
+    /// Returns whether the results of many comparisons are packed into bits eight at a time, in
+    /// registers. Otherwise each result is first written to a byte, and a vector operation packs
+    /// many bytes at once. Registers are faster for elements of more than 64 bits. The packed bits
+    /// don't depend on this choice.
     #[inline(always)]
     fn packs_by_bit(&self) -> bool {
         false
     }
 }
 
-/// Equality of two numbers.
+/// The comparison "the left number is equal to the right one".
 #[derive(Clone, Copy, Debug)]
 pub struct Equal;
 
@@ -40,7 +41,7 @@ impl<T: NativeType> Comparison<T, T> for Equal {
     }
 }
 
-/// Inequality of two numbers.
+/// The comparison "the left number is not equal to the right one".
 #[derive(Clone, Copy, Debug)]
 pub struct Unequal;
 

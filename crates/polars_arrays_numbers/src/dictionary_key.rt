@@ -1,12 +1,12 @@
-//! The types of keys into a dictionary.
+//! The types of a dictionary's keys.
 ghost use Rattle.std.specs.Prelude.{◌≡◌};
 ghost use Rattle.polars_arrays_numbers.specs.Naturals.{natural_of};
 
 use crate::native_type::NativeType;
 
-/// A type of keys, of 8 to 64 bits, signed or not.
+/// A type of dictionary keys: an integer type of 8 to 64 bits, signed or unsigned.
 pub trait DictionaryKey: NativeType {
-    /// Returns the index of the entry that the key names, or `None` if the key is negative.
+    /// Returns the key as an index of an entry, or `None` if the key is negative.
     fn to_entry(self) -> Option<usize>
         ensures { result ≡ natural_of (Self.value self) };
 }

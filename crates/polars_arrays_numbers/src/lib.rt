@@ -1,4 +1,4 @@
-//! The numbers that arrays hold, comparisons of two of them, and an exact counter.
+//! The types of numbers that arrays hold, comparisons of two numbers, and an exact counter.
 #![tactic(auto)]
 
 pub mod comparison;

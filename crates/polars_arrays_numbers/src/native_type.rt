@@ -5,16 +5,16 @@ ghost use Rattle.polars_arrays_numbers.specs.Ranges.{greatest_of, least_of};
 
 use num_traits::{Bounded, FixedWidth};
 
-/// A type of whole numbers of fixed width, in two's complement if it is signed.
+/// An integer type of a fixed width, in two's complement if it is signed.
 ///
-/// In clauses `T.value x` is the whole number that a value `x` of such a type `T` stands for.
+/// In contracts, `T.value x` is the integer that a value `x` of the type `T` stands for.
 pub trait NativeType: Copy + Ord + Bounded + FixedWidth + 'static {
-    /// Returns the width of a value in bits.
+    /// Returns the number of bits of a value.
     fn width() -> u32
         ensures { result ≡ bit_len Self.width };
 
-    /// Returns whether the type has numbers below 0. This and the width determine its least and its
-    /// greatest number.
+    /// Returns whether the type is signed. Together with the width, this determines the least and
+    /// the greatest number of the type.
     fn is_signed() -> bool
         ensures below_zero { IsTrue result ↔ (Self.low <ℤ pos 0) }
         ensures least { Self.low ≡ least_of result (bit_len Self.width) }
@@ -35,7 +35,7 @@ pub fn greatest_value<T: NativeType>() -> T
     T::max_value()
 }
 
-/// Returns whether the values have more than 64 bits.
+/// Returns whether the values of a type have more than 64 bits.
 #[inline(always)]
 pub fn has_wide_values<T: NativeType>() -> bool
     ensures { IsTrue result ↔ (64 < bit_len T.width) }

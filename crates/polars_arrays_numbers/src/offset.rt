@@ -10,7 +10,7 @@ pub trait Offset: NativeType {
     fn to_place(self) -> Option<usize>
         ensures { result ≡ natural_of (Self.value self) };
 
-    /// Returns the offset as an index without a test. The offset must not be negative.
+    /// Returns the offset as an index, without a check. The offset must not be negative.
     fn place(self) -> usize
         requires { natural_of (Self.value self) ≢ None }
         ensures { natural_of (Self.value self) ≡ Some result };

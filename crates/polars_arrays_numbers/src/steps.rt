@@ -1,17 +1,18 @@
-//! A counter. Contracts see the exact count; `seen()` stops at `u64::MAX`.
+//! A counter of steps, such as comparisons of leaves.
 ghost use Rattle.std.specs.Prelude.{◌≡◌, ℕ, min, ◌+◌, ◌-◌, ◌^◌};
 
 use std::marker::Model;
 use std::snapshot::Snapshot;
 
-// The numbers added so far, the last one first. They exist only in proofs.
+// The numbers added so far, beginning with the last one. They exist only in proofs.
 #[derive(Drop)]
 enum Past {
     Start,
     After(Snapshot<usize>, Snapshot<Past>),
 }
 
-/// A counter. Contracts see the exact count, which has no bound; `seen` stops at `u64::MAX`.
+/// A counter. In contracts its value is the exact count, which has no upper bound. At run time
+/// `seen` returns the count up to `u64::MAX`.
 #[derive(Drop)]
 pub struct Steps {
     seen: u64,
@@ -41,7 +42,7 @@ impl Steps {
         }
     }
 
-    /// Adds `n` to the count.
+    /// Adds `n` to the count. Never overflows.
     pub fn add(&mut self, n: usize)
         ensures { self.new ≡ self.old + n }
     {

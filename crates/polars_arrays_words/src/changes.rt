@@ -1,4 +1,4 @@
-//! Changes of words in place, 64 bits at a time.
+//! Changes the bits of words in place, 64 bits at a time.
 
 ghost use Rattle.std.specs.Prelude.{◌≡◌, ℕ, ◌^◌, ◌<◌, ◌≤◌, Bool, length};
 ghost use Rattle.polars_arrays_words.specs.Bits.{IsChanged, IsChangedWord};
@@ -6,7 +6,7 @@ ghost use Rattle.polars_arrays_words.specs.Bits.{IsChanged, IsChangedWord};
 use crate::operators::{BinaryOperator, TernaryOperator};
 use crate::source::BitSource;
 
-/// A change of each bit of words.
+/// A change of bits. The new value of a bit depends on its index and its old value.
 pub trait WordChange {
     ghost bit: { Self → ℕ → Bool → Bool };
 
@@ -16,18 +16,20 @@ pub trait WordChange {
     fn inner_words(&self) -> usize
         ensures { result ≡ inner self.now };
 
-    /// Returns the changed word `k`, without a bounds check.
+    /// Returns the new value of word `k`, given its old value `word`. Reads the sources without
+    /// bounds checks.
     fn inner_word(&self, k: usize, word: u64) -> u64
         requires { k < inner self.now }
         ensures { IsChangedWord (bit self.now) k word result };
 
-    /// Returns the changed word `k`.
+    /// Returns the new value of word `k`, given its old value `word`.
     fn word(&self, k: usize, word: u64) -> u64
         requires { k < 2 ^ 58 }
         ensures { IsChangedWord (bit self.now) k word result };
 }
 
-/// A change of each bit to the operator's result with the source's bit.
+/// A change that sets each bit to the operator's result for the bit itself and the source's bit at
+/// the same index.
 #[derive(Drop)]
 pub struct JoinedWith<O, A> {
     pub operator: O,
@@ -55,7 +57,8 @@ impl<O: BinaryOperator, A: BitSource> WordChange for JoinedWith<O, A> {
     }
 }
 
-/// A change of each bit to the operator's result with the bits of two sources.
+/// A change that sets each bit to the operator's result for the bit itself and the bits of two
+/// sources at the same index.
 #[derive(Drop)]
 pub struct MergedWith<O, A, B> {
     pub operator: O,
@@ -88,7 +91,7 @@ impl<O: TernaryOperator, A: BitSource, B: BitSource> WordChange for MergedWith<O
     }
 }
 
-/// Changes the first `to` words without bounds checks.
+/// Changes the first `to` words. The sources are read without bounds checks.
 #[inline(always)]
 pub fn change_inner_words<C: WordChange>(words: &mut [u64], change: &C, to: usize)
     requires within { to ≤ length words.old }
@@ -100,7 +103,7 @@ pub fn change_inner_words<C: WordChange>(words: &mut [u64], change: &C, to: usiz
     }
 }
 
-/// Changes the words from `from` to `to`.
+/// Changes the words from index `from` up to `to`, which is excluded.
 #[inline(always)]
 pub fn change_words<C: WordChange>(words: &mut [u64], change: &C, from: usize, to: usize)
     requires order { from ≤ to }

@@ -1,5 +1,5 @@
-//! Blocks of bits reduced to one bit each: whether all bits of the block are true. Blocks of two
-//! and of four bits are folded a word at a time.
+//! Reduces each block of bits to one bit, which is true if all bits of the block are true. For
+//! blocks of two and of four bits, whole words are folded at once.
 
 ghost use Rattle.std.specs.Prelude.{◌≡◌, ℕ, ◌+◌, ◌*◌, ◌^◌, ◌<◌, ◌≤◌, [], ◌∷◌, ◌&&◌, ◌||◌, length};
 ghost use Rattle.polars_arrays_words.specs.Bits.{is_bit, bit_of, IsWord};
@@ -10,7 +10,7 @@ use crate::runs::all_set;
 use crate::source::BitSource;
 use crate::words::{join_from, word_or_zero};
 
-// Joins each bit with the bit `by` places above it, and keeps those that the mask has.
+// Returns `word | (word >> by)`, with 0 for each bit that is 0 in `mask`.
 #[inline(always)]
 fn gather(word: u64, by: usize, mask: u64) -> u64
     requires { by < 64 }
@@ -20,9 +20,9 @@ fn gather(word: u64, by: usize, mask: u64) -> u64
     (word | (word >> by)) & mask
 }
 
-// Folds the pairs of a word: returns in the lowest 32 bits whether both bits of each pair are true.
-// The results first stand in every second bit. Each step then doubles the length of the runs that
-// stand together, until all are at the low end.
+// Returns a word with a bit for each of the 32 pairs of bits of `word`, 1 if both bits are 1. The
+// results first lie in every second bit. Each step then moves neighbouring runs of results
+// together, until all 32 results are the lowest bits.
 #[inline(always)]
 fn fold_pairs(word: u64) -> u64
     ensures { IsFolded 2 32 word result }
@@ -35,7 +35,8 @@ fn fold_pairs(word: u64) -> u64
     gather(answers, 16, 0xFFFF_FFFF)
 }
 
-// Folds the pairs of two words into one word.
+// Returns a word with a bit for each pair of bits of two words, 1 if both bits are 1. The results
+// for `first` are the lower half.
 #[inline(always)]
 fn fold_two_words(first: u64, second: u64) -> u64
     ensures { (i : ℕ) → i < 64 → is_bit result i ≡ block_true 2 (bit_of (first ∷ second ∷ [])) i }
@@ -43,8 +44,9 @@ fn fold_two_words(first: u64, second: u64) -> u64
     put(fold_pairs(first), fold_pairs(second), 32)
 }
 
-// Folds the fours of a word: returns in the lowest 16 bits whether all bits of each four are true.
-// The steps are those of `fold_pairs`.
+// Returns a word with a bit for each of the 16 blocks of four bits of `word`, 1 if all four bits
+// are 1. The results first lie in every fourth bit. Each step then moves neighbouring runs of
+// results together, until all 16 results are the lowest bits.
 #[inline(always)]
 fn fold_fours(word: u64) -> u64
     ensures { IsFolded 4 16 word result }
@@ -57,7 +59,8 @@ fn fold_fours(word: u64) -> u64
     gather(answers, 24, 0xFFFF)
 }
 
-// Folds the fours of four words into one word.
+// Returns a word with a bit for each block of four bits of four words, 1 if all four bits are 1.
+// The results for `first` are the lowest bits.
 #[inline(always)]
 fn fold_four_words(first: u64, second: u64, third: u64, fourth: u64) -> u64
     ensures { (i : ℕ) → i < 64 → is_bit result i
@@ -68,7 +71,8 @@ fn fold_four_words(first: u64, second: u64, third: u64, fourth: u64) -> u64
     put(three, fold_fours(fourth), 48)
 }
 
-// Returns word `k` of the bits from bit `by` of the first word on, without a bounds check.
+// Returns word `k` of the bits that begin at bit `by` of the first word. Reads without bounds
+// checks.
 #[inline(always)]
 fn inner_word_at(words: &[u64], by: usize, k: usize) -> u64
     requires by { by < 64 }
@@ -78,7 +82,8 @@ fn inner_word_at(words: &[u64], by: usize, k: usize) -> u64
     join_from(words[k], words[k + 1], by)
 }
 
-// Returns word `k` of the bits from bit `by` of the first word on, with zeros past the end.
+// Returns word `k` of the bits that begin at bit `by` of the first word, with zeros past the end of
+// `words`.
 #[inline(always)]
 fn word_at(words: &[u64], by: usize, k: usize) -> u64
     requires by { by < 64 }
@@ -88,9 +93,10 @@ fn word_at(words: &[u64], by: usize, k: usize) -> u64
     join_from(word_or_zero(words, k), word_or_zero(words, k + 1), by)
 }
 
-/// Pairs of adjacent bits, from bit `by` of the first word on. Bit `i` is whether both bits of pair
-/// `i` are true, and false past the end. (Two slices that are compared are `Pairs` of `slices.rt`
-/// in `polars_arrays_bits`.)
+/// A source with a bit for each pair of adjacent bits, true if both bits of the pair are true. The
+/// first pair begins at bit `by` of the first word. Bits past the end of `words` are false.
+/// (`Pairs` in `slices.rt` of `polars_arrays_bits` is another type, for two slices that are
+/// compared.)
 #[derive(Drop)]
 pub struct Pairs<'a> {
     pub words: &'a [u64],
@@ -129,8 +135,8 @@ impl BitSource for Pairs<'_> {
     }
 }
 
-/// Fours of adjacent bits, from bit `by` of the first word on. Bit `i` is whether all bits of four
-/// `i` are true, and false past the end.
+/// A source with a bit for each block of four adjacent bits, true if all four are true. The first
+/// block begins at bit `by` of the first word. Bits past the end of `words` are false.
 #[derive(Drop)]
 pub struct Fours<'a> {
     pub words: &'a [u64],
@@ -173,8 +179,9 @@ impl BitSource for Fours<'_> {
     }
 }
 
-/// Blocks of `width` bits from bit `by` of the first word on, `count` of them. Value `i` is whether
-/// all bits of block `i` are true. Blocks are folded one at a time.
+/// A list of `count` truth values, one for each block of `width` bits, true if all bits of the
+/// block are true. The first block begins at bit `by` of the first word. Blocks are read one at a
+/// time.
 #[derive(Drop)]
 pub struct Blocks<'a> {
     pub words: &'a [u64],
@@ -201,7 +208,7 @@ impl TruthValues for Blocks<'_> {
         all_set(self.words, self.by, self.width * i, self.width)
     }
 
-    // Packs in registers, since each value reads bits of two words.
+    // Values are packed in registers, since each value reads bits of two words.
     #[inline(always)]
     fn packs_by_bit(&self) -> bool {
         true

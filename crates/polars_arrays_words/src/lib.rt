@@ -1,5 +1,5 @@
-//! Bits of 64-bit words: read from any bit on, counted, joined by operators, packed from truth
-//! values, folded by blocks, written, and changed in place.
+//! Bits of 64-bit words: reads them from any bit on, counts them, combines them by operators, packs
+//! truth values into words, reduces blocks of bits to one bit each, and writes bits in place.
 #![tactic(auto)]
 
 pub mod changes;

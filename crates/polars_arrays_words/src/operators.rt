@@ -1,34 +1,39 @@
-//! Operators on truth values, 64 at a time.
+//! Operators on truth values, applied to 64 truth values at a time.
 
 ghost use Rattle.std.specs.Prelude.{◌≡◌, ℕ, ◌<◌, Bool, not, ◌&&◌, ◌||◌};
 ghost use Rattle.polars_arrays_words.specs.Bits.{is_bit};
 
 use crate::source::BitSource;
 
-/// An operator on one truth value, at each bit of a word.
+/// An operator on one truth value. `apply` applies it to each bit of a word.
 pub trait UnaryOperator: Drop {
     ghost bit: { Bool → Bool };
 
+    /// Returns the word whose bits are the operator's results.
     fn apply(&self, x: u64) -> u64
         ensures { (i : ℕ) → i < 64 → is_bit result i ≡ bit (is_bit x i) };
 }
 
-/// An operator on two truth values, at each bit of two words.
+/// An operator on two truth values. `apply` applies it to the two bits at each index of two words.
 pub trait BinaryOperator: Drop {
     ghost bit: { Bool → Bool → Bool };
 
+    /// Returns the word whose bits are the operator's results.
     fn apply(&self, x: u64, y: u64) -> u64
         ensures { (i : ℕ) → i < 64 → is_bit result i ≡ bit (is_bit x i) (is_bit y i) };
 }
 
-/// An operator on three truth values, at each bit of three words.
+/// An operator on three truth values. `apply` applies it to the three bits at each index of three
+/// words.
 pub trait TernaryOperator: Drop {
     ghost bit: { Bool → Bool → Bool → Bool };
 
+    /// Returns the word whose bits are the operator's results.
     fn apply(&self, x: u64, y: u64, z: u64) -> u64
         ensures { (i : ℕ) → i < 64 → is_bit result i ≡ bit (is_bit x i) (is_bit y i) (is_bit z i) };
 }
 
+/// The operator `!x`.
 #[derive(Drop)]
 pub struct Not;
 
@@ -41,6 +46,7 @@ impl UnaryOperator for Not {
     }
 }
 
+/// The operator `x & y`.
 #[derive(Drop)]
 pub struct And;
 
@@ -53,6 +59,7 @@ impl BinaryOperator for And {
     }
 }
 
+/// The operator `x | y`.
 #[derive(Drop)]
 pub struct Or;
 
@@ -65,6 +72,7 @@ impl BinaryOperator for Or {
     }
 }
 
+/// The operator `x ^ y`.
 #[derive(Drop)]
 pub struct Xor;
 
@@ -79,6 +87,7 @@ impl BinaryOperator for Xor {
     }
 }
 
+/// The operator "`x` equals `y`".
 #[derive(Drop)]
 pub struct Xnor;
 
@@ -93,6 +102,7 @@ impl BinaryOperator for Xnor {
     }
 }
 
+/// The operator `x & !y`.
 #[derive(Drop)]
 pub struct AndNot;
 
@@ -107,6 +117,7 @@ impl BinaryOperator for AndNot {
     }
 }
 
+/// The operator `x | !y`.
 #[derive(Drop)]
 pub struct OrNot;
 
@@ -121,8 +132,9 @@ impl BinaryOperator for OrNot {
     }
 }
 
-/// Missing equality: null is equal to null alone. The operands are the bits of plain equality and
-/// the validity of the two sides. Computes inequality and negates it, which takes one step less.
+/// Equality of two rows that may be null. Null is equal only to null. `x` says whether the stored
+/// values are equal, `y` and `z` whether the left and the right row are present. Computes
+/// inequality and negates it, which takes one operation less.
 #[derive(Drop)]
 pub struct MergeEq;
 
@@ -137,9 +149,9 @@ impl TernaryOperator for MergeEq {
     }
 }
 
-/// Missing inequality: null is equal to null alone. The operands are the bits of plain inequality
-/// and the validity of the two sides. If exactly one side is present, `y ^ z` is 1. Otherwise `y`
-/// alone says whether both are.
+/// Inequality of two rows that may be null. Null is equal only to null. `x` says whether the stored
+/// values differ, `y` and `z` whether the left and the right row are present. If exactly one row is
+/// present, `y ^ z` is 1. Otherwise `y` and `z` are equal, so `x & y` suffices.
 #[derive(Drop)]
 pub struct MergeNe;
 
@@ -154,7 +166,7 @@ impl TernaryOperator for MergeNe {
     }
 }
 
-/// An operator applied to one source.
+/// A source whose bits are the operator's results for the bits of another source.
 #[derive(Drop)]
 pub struct Mapped<O, A> {
     pub operator: O,
@@ -187,7 +199,7 @@ impl<O: UnaryOperator, A: BitSource> BitSource for Mapped<O, A> {
     }
 }
 
-/// An operator applied to two sources.
+/// A source whose bits are the operator's results for the bits of two sources at the same index.
 #[derive(Drop)]
 pub struct Zipped<O, A, B> {
     pub operator: O,
@@ -224,7 +236,7 @@ impl<O: BinaryOperator, A: BitSource, B: BitSource> BitSource for Zipped<O, A, B
     }
 }
 
-/// An operator applied to three sources.
+/// A source whose bits are the operator's results for the bits of three sources at the same index.
 #[derive(Drop)]
 pub struct Merged<O, A, B, C> {
     pub operator: O,

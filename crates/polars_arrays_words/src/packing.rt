@@ -1,4 +1,4 @@
-//! Packing of truth values that are read one by one into words.
+//! Packs truth values into words, 64 values to a word.
 
 ghost use Rattle.std.specs.Prelude.{◌≡◌, ℕ, ◌+◌, ◌-◌, ◌^◌, ◌<◌, ◌≤◌, Bool, List, false, not, ◌||◌};
 ghost use Rattle.std.specs.Prelude.{eqb, length, get_or, slice_index_or};
@@ -9,7 +9,7 @@ use crate::source::BitSource;
 use crate::words::WORD_BITS;
 use std::simd::prelude::*;
 
-/// A list of truth values that are read one by one.
+/// A list of truth values, which are read one at a time.
 pub trait TruthValues {
     // The truth values, the first one first.
     ghost values: { Self → List Bool };
@@ -18,23 +18,23 @@ pub trait TruthValues {
     fn len(&self) -> usize
         ensures { result ≡ length (values self.now) };
 
-    /// Returns the truth value at place `i`.
+    /// Returns the truth value at index `i`.
     fn value(&self, i: usize) -> bool
         requires { i < length (values self.now) }
         ensures { result ≡ slice_index_or (values self.now) i false };
 
     /// Returns whether truth values are packed eight at a time, in registers (`pack_by_bytes`).
-    /// Otherwise each is first written to a flag of a byte, and a vector operation packs the flags:
-    /// 64 at once in `pack_by_flags`, and in `pack_few` 16 at once, by `pack_by_sixteens`.
-    /// Registers are faster if each value is computed from more than 64 bits. The results are the
-    /// same either way.
+    /// Otherwise each value is first written to a flag of one byte, and a vector operation packs
+    /// the flags: 64 at once in `pack_by_flags`, and 16 at once in `pack_few`, by
+    /// `pack_by_sixteens`. Registers are faster if each value is computed from more than 64 bits.
+    /// The packed bits don't depend on this choice.
     #[inline(always)]
     fn packs_by_bit(&self) -> bool {
         false
     }
 }
 
-// Returns the word whose bit `i` is whether flag `i` is not 0.
+// Returns the word whose bit `i` is 1 if flag `i` is not 0.
 #[inline(always)]
 fn pack_flags(flags: &[u8; 64]) -> u64
     ensures { (i : ℕ) → i < 64 → is_bit result i ≡ not (eqb (get_or flags.now i 0) 0) }
@@ -44,7 +44,8 @@ fn pack_flags(flags: &[u8; 64]) -> u64
         .to_bitmask()
 }
 
-// Returns the word whose bit `i` is whether flag `i` of sixteen is not 0, and zeros above them.
+// Returns the word whose bit `i` is 1 if flag `i` of the sixteen is not 0. The bits above bit 15
+// are 0.
 #[inline(always)]
 fn pack_sixteen_flags(flags: &[u8; 16]) -> u64
     ensures { (i : ℕ) → i < 64 → is_bit result i ≡ not (eqb (get_or flags.now i 0) 0) }
@@ -54,7 +55,8 @@ fn pack_sixteen_flags(flags: &[u8; 16]) -> u64
         .to_bitmask()
 }
 
-// Marks the next `count` truth values, those from place `at + done` on.
+// Writes `count` truth values, those from index `at + done` on, to the flags from index `done` on.
+// The first `done` flags are written already.
 #[inline(always)]
 fn mark_next<V: TruthValues, const N: usize>(
     flags: &mut [u8; N],
@@ -74,9 +76,9 @@ fn mark_next<V: TruthValues, const N: usize>(
     }
 }
 
-// Packs `count` truth values from place `at` on into a word, with zeros above them. They are first
-// written to flags of a byte each, sixteen at a time: a loop of that constant length is compiled
-// without branches.
+// Packs `count` truth values from index `at` on into a word, with zeros above them. The values are
+// first written to flags of one byte each, sixteen at a time: the compiler removes the branches of
+// a loop with that constant number of iterations.
 #[inline(always)]
 fn pack_by_flags<V: TruthValues>(values: &V, at: usize, count: usize) -> u64
     requires few { count ≤ 64 }
@@ -93,7 +95,7 @@ fn pack_by_flags<V: TruthValues>(values: &V, at: usize, count: usize) -> u64
     pack_flags(&flags)
 }
 
-/// Returns the word with the bits of `more` added from bit `by` on.
+/// Returns `word` combined by OR with `more`, which is shifted up by `by` bits.
 #[inline(always)]
 pub fn put(word: u64, more: u64, by: usize) -> u64
     requires { by < 64 }
@@ -104,7 +106,7 @@ pub fn put(word: u64, more: u64, by: usize) -> u64
     word | (more << by)
 }
 
-// Packs the sixteen truth values from place `at` on into a word, with zeros above them. The flags
+// Packs the sixteen truth values from index `at` on into a word, with zeros above them. The flags
 // stay in a register.
 #[inline(always)]
 fn pack_sixteen<V: TruthValues>(values: &V, at: usize) -> u64
@@ -117,8 +119,9 @@ fn pack_sixteen<V: TruthValues>(values: &V, at: usize) -> u64
     pack_sixteen_flags(&flags)
 }
 
-// Packs `count` truth values from place `at` on into a word, sixteen at a time, with zeros above
-// them. The last sixteen may overlap those before them, so that no values are left to pack singly.
+// Packs `count` truth values from index `at` on into a word, sixteen at a time, with zeros above
+// them. If `count` is not a multiple of 16, the last sixteen overlap those before them, so that no
+// value has to be packed singly.
 #[inline(always)]
 fn pack_by_sixteens<V: TruthValues>(values: &V, at: usize, count: usize) -> u64
     requires some { 16 ≤ count }
@@ -139,8 +142,8 @@ fn pack_by_sixteens<V: TruthValues>(values: &V, at: usize, count: usize) -> u64
     word
 }
 
-// Packs `count` truth values from place `at` on into a word, with zeros above them, bit by bit from
-// the last one. Each bit moves those above it up by one place.
+// Packs `count` truth values from index `at` on into a word, with zeros above them. Begins with the
+// last value: each step shifts the word up by one bit, and puts the next value into the lowest bit.
 #[inline(always)]
 fn pack_bits<V: TruthValues>(values: &V, at: usize, count: usize) -> u64
     requires few { count ≤ 64 }
@@ -156,8 +159,8 @@ fn pack_bits<V: TruthValues>(values: &V, at: usize, count: usize) -> u64
     word
 }
 
-// Packs `count` truth values from place `at` on into a word, eight at a time, with zeros above
-// them. The results for eight wide elements stay in registers until they make a byte.
+// Packs `count` truth values from index `at` on into a word, eight at a time, with zeros above
+// them. The results of eight comparisons of wide elements stay in registers until they make a byte.
 #[inline(always)]
 fn pack_by_bytes<V: TruthValues>(values: &V, at: usize, count: usize) -> u64
     requires few { count ≤ 64 }
@@ -180,7 +183,8 @@ fn pack_by_bytes<V: TruthValues>(values: &V, at: usize, count: usize) -> u64
     word
 }
 
-// Packs `count` truth values from place `at` on into a word, with zeros above them.
+// Packs `count` truth values from index `at` on into a word, with zeros above them. Uses the way
+// that `packs_by_bit` asks for.
 #[inline(always)]
 pub(crate) fn pack_word<V: TruthValues>(values: &V, at: usize, count: usize) -> u64
     requires few { count ≤ 64 }
@@ -195,10 +199,10 @@ pub(crate) fn pack_word<V: TruthValues>(values: &V, at: usize, count: usize) -> 
     }
 }
 
-/// Packs `count` truth values from place `at` on into a word, with zeros above them. For a `count`
-/// that is not a constant.
-// Flags pay from sixteen values on. An array of 64 flags would be kept in memory, since the
-// compiler does not know how many of them are used.
+/// Packs `count` truth values from index `at` on into a word, with zeros above them. Meant for
+/// calls in which `count` is not a constant.
+// Flags are worth their cost from sixteen values on. An array of 64 flags would be slower here: the
+// compiler would put it in memory, since it does not know how many flags are used.
 #[inline(always)]
 pub fn pack_few<V: TruthValues>(values: &V, at: usize, count: usize) -> u64
     requires few { count ≤ 64 }
@@ -215,8 +219,8 @@ pub fn pack_few<V: TruthValues>(values: &V, at: usize, count: usize) -> u64
     }
 }
 
-/// Truth values that are not packed yet, as a source of bits: a word is packed when it is read.
-/// Bits past the last value are false.
+/// A source of bits made from truth values that are not packed yet. A word is packed whenever it is
+/// read. Bits past the last value are false.
 #[derive(Drop)]
 pub struct Packed<'a, V> {
     pub values: &'a V,
@@ -234,7 +238,8 @@ impl<'a, V: TruthValues> BitSource for Packed<'a, V> {
         self.values.len() / WORD_BITS
     }
 
-    // Inlined: a call for each word would cost as much as joining the masks.
+    // This is inlined, since a call for each word would cost as much as combining the word with
+    // masks.
     #[inline(always)]
     fn inner_word(&self, k: usize) -> u64 {
         // Has no effect at run time. The proof learns from it that places fit in 64 bits.
@@ -250,7 +255,7 @@ impl<'a, V: TruthValues> BitSource for Packed<'a, V> {
     }
 }
 
-/// The truth values of a slice.
+/// The truth values of a slice of `bool`.
 #[derive(Drop)]
 pub struct Bools<'a> {
     pub values: &'a [bool],

@@ -1,4 +1,4 @@
-//! Tests of runs of bits.
+//! Checks of runs of bits: are all bits of the run true?
 
 ghost use Rattle.std.specs.Prelude.{◌≡◌, ◌+◌, ◌^◌, ◌<◌, ◌≤◌};
 ghost use Rattle.std.specs.List.{list_all};
@@ -6,8 +6,8 @@ ghost use Rattle.polars_arrays_words.specs.Bits.{first_of, is_bit, window};
 
 use crate::words::{WORD_BITS, word_from};
 
-// Returns whether the `n` bits from bit `at` on are all true, for at most a word of them. Bits are
-// counted from bit `by` of the first word.
+// Returns whether the `n` bits from bit `at` on are all true. `n` is at most 64. Bit 0 is bit `by`
+// of the first word.
 #[inline(always)]
 fn few_set(words: &[u64], by: usize, at: usize, n: usize) -> bool
     requires by { by < 64 }
@@ -17,9 +17,9 @@ fn few_set(words: &[u64], by: usize, at: usize, n: usize) -> bool
     n <= word_from(words, by, at).trailing_ones() as usize
 }
 
-// Returns whether the `n` bits from bit `at` on are all true, and stops at the first word with a
-// false bit. Bits are counted from bit `by` of the first word. Not inlined, so that runs of at most
-// a word need no call.
+// Returns whether the `n` bits from bit `at` on are all true. Bit 0 is bit `by` of the first word.
+// Stops at the first word with a false bit. This function is not inlined, so that `all_set`, which
+// is, stays short.
 #[inline(never)]
 fn many_set(words: &[u64], by: usize, at: usize, n: usize) -> bool
     requires by { by < 64 }
@@ -35,8 +35,7 @@ fn many_set(words: &[u64], by: usize, at: usize, n: usize) -> bool
     few_set(words, by, at + (n - rest), rest)
 }
 
-/// Returns whether the `n` bits from bit `at` on are all true. Bits are counted from bit `by` of
-/// the first word.
+/// Returns whether the `n` bits from bit `at` on are all true. Bit 0 is bit `by` of the first word.
 #[inline(always)]
 pub fn all_set(words: &[u64], by: usize, at: usize, n: usize) -> bool
     requires by { by < 64 }
@@ -50,13 +49,12 @@ pub fn all_set(words: &[u64], by: usize, at: usize, n: usize) -> bool
     }
 }
 
-/// Returns whether the `n` bits from bit `at` on of one word are all true.
+/// Returns whether the `n` bits of a word from bit `at` on are all true.
 #[inline]
 pub fn word_set(word: u64, at: usize, n: usize) -> bool
     requires { at + n ≤ 64 }
     ensures { result ≡ list_all (λ b. b) (first_of (λ i. is_bit word (at + i)) n) }
 {
-    // The run may be empty and begin at the word's end, and a word can't be shifted by all of its
-    // bits.
+    // If `at` is 64, the run is empty. A shift by 64 is not allowed, so the shift is then by 0.
     n <= (word >> (at % WORD_BITS)).trailing_ones() as usize
 }

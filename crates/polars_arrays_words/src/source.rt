@@ -1,4 +1,4 @@
-//! Bits that are read 64 at a time.
+//! Sources of bits, read 64 bits at a time, and loops that collect or count these bits.
 
 ghost use Rattle.std.specs.Prelude.{◌≡◌, ℕ, ◌+◌, ◌-◌, ◌*◌, ◌^◌, ◌<◌, ◌≤◌, Bool, [], length};
 ghost use Rattle.std.specs.Prelude.{vec_capacity, count_by, IfOk};
@@ -7,38 +7,39 @@ ghost use Rattle.polars_arrays_words.specs.Bits.{bit_of, window, true_count, IsW
 use crate::words::{WORD_BITS, join, join_from, join_lanes, word_or_zero};
 use std::alloc::{AllocError, Global};
 
-/// A source of bits, read as words of 64, the lowest bit first.
+/// A sequence of bits that is read in words of 64. The first bit of a word is its lowest bit.
 pub trait BitSource {
     ghost bit: { Self → ℕ → Bool };
 
     ghost inner: { Self → ℕ };
 
-    /// Returns the number of inner words: the leading ones that `inner_word` can read, since all
-    /// that it reads for them lies within the source.
+    /// Returns the number of inner words. These are the leading words that `inner_word` can read,
+    /// since all data that it reads lies within the source.
     fn inner_words(&self) -> usize
         ensures { result ≡ inner self.now };
 
-    /// Returns whether reading a word is cheap, so that loops read four words a turn.
-    // A short loop takes up to two fifths longer if its last jump lies badly in the processor's
-    // cache.
+    /// Returns whether reading a word is cheap. If so, `collect_words` reads four words per
+    /// iteration.
+    // A short loop takes up to 40 percent longer if the jump at its end is badly aligned in the
+    // processor's cache. Four words per iteration make this matter less.
     #[inline(always)]
     fn is_cheap(&self) -> bool {
         false
     }
 
-    /// Returns inner word `k`. It indexes without a check at run time, since `requires` proves `k`
-    /// in range.
+    /// Returns inner word `k`. The index is not checked at run time, since `requires` proves that
+    /// it is in range.
     fn inner_word(&self, k: usize) -> u64
         requires { k < inner self.now }
         ensures { IsWord (bit self.now) k result };
 
-    /// Returns word `k`, inner or not.
+    /// Returns word `k`, which need not be an inner word.
     fn word(&self, k: usize) -> u64
         requires { k < 2 ^ 58 }
         ensures { IsWord (bit self.now) k result };
 }
 
-/// The bits of words from the lowest bit of the first word on, and zeros after them.
+/// The bits of `words`, followed by zeros. The first bit is the lowest bit of the first word.
 #[derive(Drop)]
 pub struct Aligned<'a> {
     pub words: &'a [u64],
@@ -70,7 +71,8 @@ impl BitSource for Aligned<'_> {
     }
 }
 
-/// The bits of words from bit `by` of the first word on, and zeros after them. `by` is not 0.
+/// The bits of `words`, followed by zeros. The first bit is bit `by` of the first word, and `by` is
+/// not 0.
 #[derive(Drop)]
 pub struct Shifted<'a> {
     pub words: &'a [u64],
@@ -109,9 +111,9 @@ impl BitSource for Shifted<'_> {
     }
 }
 
-/// The bits of words from bit `by` of the first word on, and zeros after them. `by` may be 0. One
-/// loop serves both cases. It reads two words for each word, so it suits loops that spend most of
-/// their time elsewhere.
+/// The bits of `words`, followed by zeros. The first bit is bit `by` of the first word. `by` may be
+/// 0, so a single loop serves all values of `by`. Each word read takes two of `words`, so this
+/// suits loops that spend most of their time on other work.
 #[derive(Drop)]
 pub struct Placed<'a> {
     pub words: &'a [u64],
@@ -144,7 +146,7 @@ impl BitSource for Placed<'_> {
     }
 }
 
-// Appends four words from word `k` on, read without bounds checks.
+// Appends the four words from index `k` on. Reads them without bounds checks.
 #[inline(always)]
 fn push_four_words<S: BitSource>(words: &mut Vec<u64>, source: &S, k: usize)
     requires inner { k + 4 ≤ S.inner source.now }
@@ -164,7 +166,8 @@ fn push_four_words<S: BitSource>(words: &mut Vec<u64>, source: &S, k: usize)
     words.push_reserved(fourth);
 }
 
-// Fills an empty vector with the first `4 * fours` words, read without bounds checks.
+// Fills an empty vector with the first `4 * fours` words of a source. Reads them without bounds
+// checks.
 #[inline(always)]
 fn push_fours<S: BitSource>(words: &mut Vec<u64>, source: &S, fours: usize)
     requires inner { 4 * fours ≤ S.inner source.now }
@@ -179,7 +182,8 @@ fn push_fours<S: BitSource>(words: &mut Vec<u64>, source: &S, fours: usize)
     }
 }
 
-// Appends the words from `from` to `to`, read without bounds checks.
+// Appends the words from index `from` up to `to`, which is excluded. Reads them without bounds
+// checks.
 #[inline(always)]
 fn push_inner_words<S: BitSource>(words: &mut Vec<u64>, source: &S, from: usize, to: usize)
     requires order { from ≤ to }
@@ -194,7 +198,7 @@ fn push_inner_words<S: BitSource>(words: &mut Vec<u64>, source: &S, from: usize,
     }
 }
 
-// Appends the words from `from` to `to`.
+// Appends the words from index `from` up to `to`, which is excluded.
 #[inline(always)]
 fn push_words<S: BitSource>(words: &mut Vec<u64>, source: &S, from: usize, to: usize)
     requires order { from ≤ to }
@@ -208,7 +212,7 @@ fn push_words<S: BitSource>(words: &mut Vec<u64>, source: &S, from: usize, to: u
     }
 }
 
-/// Collects the first `count` words of a source.
+/// Collects the first `count` words of a source. The error is that memory ran out.
 #[inline(always)]
 pub fn collect_words<S: BitSource>(
     alloc: Global,
@@ -227,7 +231,7 @@ pub fn collect_words<S: BitSource>(
     Ok(words)
 }
 
-// Counts the set bits of four words from word `k` on, read without bounds checks.
+// Counts the set bits of the four words from index `k` on. Reads them without bounds checks.
 #[inline(always)]
 fn count_four_words<S: BitSource>(source: &S, k: usize) -> usize
     requires inner { k + 4 ≤ S.inner source.now }
@@ -242,8 +246,8 @@ fn count_four_words<S: BitSource>(source: &S, k: usize) -> usize
     (first + second + third + fourth) as usize
 }
 
-// Counts the set bits of the first `4 * fours` words, read without bounds checks. Four words a turn
-// keep the cost of the loop itself low.
+// Counts the set bits of the first `4 * fours` words. Reads them without bounds checks, four words
+// per iteration, which makes the cost of the loop itself low.
 #[inline(always)]
 fn count_inner_words<S: BitSource>(source: &S, fours: usize) -> usize
     requires inner { 4 * fours ≤ S.inner source.now }
@@ -257,7 +261,8 @@ fn count_inner_words<S: BitSource>(source: &S, fours: usize) -> usize
     counted
 }
 
-// Counts the set bits of the first `to` words, given `before`, the count of the first `from` words.
+// Counts the set bits of the first `to` words. `before` is the count for the first `from` words,
+// which are not read again.
 #[inline(always)]
 fn count_words<S: BitSource>(source: &S, before: usize, from: usize, to: usize) -> usize
     requires order { from ≤ to }
@@ -285,7 +290,7 @@ pub fn count_bits<S: BitSource>(source: &S, len: usize) -> usize
     counted + last.count_ones() as usize
 }
 
-/// Counts the set bits among the `len` bits from bit `by` of the first word on.
+/// Counts the set bits among the `len` bits that begin at bit `by` of the first word.
 pub fn count_window(words: &[u64], by: usize, len: usize) -> usize
     requires { by < 64 }
     ensures { result ≡ count_by (λ b. b) (window by len words.now) }

@@ -1,4 +1,4 @@
-//! Single bits and runs of bits of 64-bit words.
+//! Reads single bits and runs of bits from slices of 64-bit words.
 
 ghost use Rattle.std.specs.Prelude.{◌≡◌, ℕ, ◌+◌, ◌-◌, ◌*◌, ◌/◌, ◌%◌, ◌^◌, ◌<◌, ◌≤◌, true, false};
 ghost use Rattle.std.specs.Prelude.{List, [], ◌∷◌, length, get_or, take, drop};
@@ -7,7 +7,7 @@ ghost use Rattle.polars_arrays_words.specs.Bits.{is_bit, bit_of};
 /// The number of bits of a word.
 pub const WORD_BITS: usize = 64;
 
-// Returns word `k`, or 0 past the end.
+// Returns word `k`, or 0 if there is no word `k`.
 #[inline]
 pub(crate) fn word_or_zero(words: &[u64], k: usize) -> u64
     ensures { result ≡ get_or words.now k 0 }
@@ -15,8 +15,8 @@ pub(crate) fn word_or_zero(words: &[u64], k: usize) -> u64
     if k < words.len() { words[k] } else { 0 }
 }
 
-// Returns the 64 bits from bit `by` of `low` on, where `high` is the next word and `by` is not 0.
-// It is compiled to one instruction, the fastest form for a single word.
+// Returns the 64 bits that begin at bit `by` of `low` and continue in `high`, the next word. `by`
+// is not 0. The compiler makes this a single instruction, which is the fastest form for one word.
 #[inline]
 pub(crate) fn join(low: u64, high: u64, by: usize) -> u64
     requires some { 0 < by }
@@ -26,10 +26,10 @@ pub(crate) fn join(low: u64, high: u64, by: usize) -> u64
     (low >> by) | (high << (64 - by))
 }
 
-// Returns the result of `join`, in a form for loops over words. The compiler makes `join` an
-// instruction that shifts two words, and that one has no vector form. It vectorizes these two
-// shifts, which share no bit. It would vectorize `^` as well, except `^` of two joins: there it
-// reorders all four shifts.
+// Returns the 64 bits that begin at bit `by` of `low` and continue in `high`, like `join`, but in a
+// form for loops, which the compiler can vectorize. For `|` it emits a double-word shift, which has
+// no vector form. The two terms share no bit, so `+` has the same result. `^` would do too, except
+// in loops that combine two joins by `^`: there the compiler reorders all four shifts.
 #[inline]
 pub(crate) fn join_lanes(low: u64, high: u64, by: usize) -> u64
     requires some { 0 < by }
@@ -39,8 +39,8 @@ pub(crate) fn join_lanes(low: u64, high: u64, by: usize) -> u64
     (low >> by) + (high << (64 - by))
 }
 
-// Returns the result of `join`, for any `by` below 64. It is compiled to one shift of two words,
-// without a branch.
+// Returns the 64 bits that begin at bit `by` of `low` and continue in `high`. `by` may be 0, and
+// then `low` is returned. The `if` costs no branch: the compiler emits one double-word shift.
 #[inline]
 pub(crate) fn join_from(low: u64, high: u64, by: usize) -> u64
     requires { by < 64 }
@@ -49,7 +49,7 @@ pub(crate) fn join_from(low: u64, high: u64, by: usize) -> u64
     if by == 0 { low } else { join(low, high, by) }
 }
 
-/// Returns the 64 bits from bit `at` on, and zeros past the end. Bits are counted from bit `by` of
+/// Returns the 64 bits from bit `at` on, with zeros past the end of `words`. Bit 0 is bit `by` of
 /// the first word.
 #[inline]
 pub fn word_from(words: &[u64], by: usize, at: usize) -> u64
@@ -65,7 +65,7 @@ pub fn word_from(words: &[u64], by: usize, at: usize) -> u64
     )
 }
 
-/// Returns bit `i`, counted from bit `by` of the first word.
+/// Returns bit `i`. Bit 0 is bit `by` of the first word.
 #[inline]
 pub fn bit_from(words: &[u64], by: usize, i: usize) -> bool
     requires by { by < 64 }
@@ -76,19 +76,19 @@ pub fn bit_from(words: &[u64], by: usize, i: usize) -> bool
     (words[i / WORD_BITS + place / WORD_BITS] >> (place % WORD_BITS)) & 1 == 1
 }
 
-/// The words that hold a run of bits.
+/// The location of a run of bits in a slice of words.
 #[derive(Drop)]
 pub struct Place {
     /// Index of the first word.
     pub first: usize,
     /// Number of words.
     pub count: usize,
-    /// Bit of the first word where the run begins.
+    /// Index of the first bit of the run in the first word.
     pub by: usize,
 }
 
 impl Place {
-    /// Returns these words as a slice.
+    /// Returns the words that hold the run, as a slice of `words`.
     pub fn words_of<'a>(&self, words: &'a [u64]) -> &'a [u64]
         requires { self.now.first + self.now.count ≤ length words.now }
         ensures { result.now ≡ take self.now.count (drop self.now.first words.now) }
@@ -97,7 +97,7 @@ impl Place {
     }
 }
 
-/// Locates the `n` bits that begin `at` bits after bit `by` of the first word.
+/// Locates the run of `n` bits from bit `at` on. Bit 0 is bit `by` of the first word.
 pub fn place_of(by: usize, at: usize, n: usize) -> Place
     requires { by < 64 }
     ensures within_word { result.by < 64 }
@@ -123,7 +123,7 @@ pub fn filled_word(value: bool) -> u64
     if value { u64::MAX } else { 0 }
 }
 
-/// Returns the word whose `n` lowest bits are true and the others false.
+/// Returns the word whose `n` lowest bits are 1 and whose other bits are 0.
 #[inline]
 pub fn low_bits(n: usize) -> u64
     requires { n ≤ 64 }

@@ -1,4 +1,4 @@
-//! Writes of bits into words.
+//! Writes bits into slices of words. Bit 0 is the lowest bit of the first word.
 
 ghost use Rattle.std.specs.Prelude.{◌≡◌, ◌+◌, ◌*◌, ◌^◌, ◌<◌, ◌≤◌, Bool, length, slice_set};
 ghost use Rattle.polars_arrays_words.specs.Bits.{IsPut, IsWritten, first_of};
@@ -19,7 +19,7 @@ pub fn write_bit(words: &mut [u64], p: usize, value: bool)
     words[p / WORD_BITS] = if value { word | mask } else { word & !mask };
 }
 
-// Sets the bits from `from` to `to` to `value`.
+// Sets the bits from `from` up to `to`, which is excluded, to `value`, one by one.
 fn write_bits(words: &mut [u64], from: usize, to: usize, value: bool)
     requires order { from ≤ to }
     requires room { to ≤ 64 * length words.old }
@@ -30,7 +30,7 @@ fn write_bits(words: &mut [u64], from: usize, to: usize, value: bool)
     }
 }
 
-// Sets all bits of the words from `from` to `to` to `value`.
+// Sets all bits of the words from index `from` up to `to`, which is excluded, to `value`.
 fn write_words(words: &mut [u64], from: usize, to: usize, value: bool)
     requires order { from ≤ to }
     requires room { to ≤ length words.old }
@@ -42,7 +42,7 @@ fn write_words(words: &mut [u64], from: usize, to: usize, value: bool)
     }
 }
 
-/// Sets the bits from `from` to `to` to `value`, whole words at a time.
+/// Sets the bits from `from` up to `to`, which is excluded, to `value`, whole words at a time.
 pub fn fill_bits(words: &mut [u64], from: usize, to: usize, value: bool)
     requires order { from ≤ to }
     requires room { to ≤ 64 * length words.old }
@@ -59,7 +59,7 @@ pub fn fill_bits(words: &mut [u64], from: usize, to: usize, value: bool)
     }
 }
 
-// Sets word `k`, or does nothing past the end.
+// Sets word `k`, or does nothing if there is no word `k`.
 #[inline]
 fn set_word(words: &mut [u64], k: usize, word: u64)
     ensures { words.new ≡ slice_set words.old k word }
@@ -69,8 +69,8 @@ fn set_word(words: &mut [u64], k: usize, word: u64)
     }
 }
 
-// Writes the 64 bits of `word` from bit `p` on, up to the end of the words. Bits before `p` stay;
-// those after the 64 may change.
+// Writes the 64 bits of `word` from bit `p` on, as far as there are words. The bits before `p`
+// don't change. The bits after these 64 may change.
 #[inline]
 fn put_word(words: &mut [u64], p: usize, word: u64)
     ensures { IsPut words.old words.new p word }
@@ -82,8 +82,8 @@ fn put_word(words: &mut [u64], p: usize, word: u64)
     set_word(words, k + 1, (word >> 1) >> (WORD_BITS - 1 - by));
 }
 
-/// Writes the truth values from bit `from` on, a word at a time. Bits before `from` stay; those
-/// after the values may change.
+/// Writes truth values from bit `from` on, 64 at a time. The bits before `from` don't change. The
+/// bits after the values may change.
 pub fn append_values<V: TruthValues>(words: &mut [u64], from: usize, values: &V)
     requires room { from + length (V.values values.now) ≤ 64 * length words.old }
     requires fits { from + length (V.values values.now) < 2 ^ 64 }
@@ -103,8 +103,8 @@ pub fn append_values<V: TruthValues>(words: &mut [u64], from: usize, values: &V)
     );
 }
 
-/// Writes the first `len` bits of a source from bit `from` on, a word at a time. Bits before `from`
-/// stay; those after them may change.
+/// Writes the first `len` bits of a source from bit `from` on, a word at a time. The bits before
+/// `from` don't change. The bits after these `len` may change.
 pub fn append_bits<S: BitSource>(words: &mut [u64], from: usize, source: &S, len: usize)
     requires room { from + len ≤ 64 * length words.old }
     requires fits { from + len < 2 ^ 64 }

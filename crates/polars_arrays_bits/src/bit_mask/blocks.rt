@@ -1,4 +1,4 @@
-//! Blocks of bits, folded to one bit each: whether all bits of the block are true.
+//! Reduces each block of bits to one bit, which is true if all bits of the block are true.
 
 ghost use Rattle.std.specs.Prelude.{◌≡◌, ◌*◌, ◌^◌, ◌<◌, ◌≤◌, length, MatchResult};
 ghost use Rattle.polars_arrays_words.specs.Blocks.{blocks_all};
@@ -11,7 +11,8 @@ use polars_arrays_words::folds::{Blocks, Fours, Pairs};
 use std::alloc::Global;
 
 impl BitMask<'_> {
-    // Returns a bit for each pair of bits: whether both are true.
+    // Returns a bit for each of the first `n` pairs of bits, true if both bits of the pair are
+    // true. The error is `Memory`.
     fn all_in_pairs(&self, alloc: Global, n: usize) -> Result<Bitmap, ComputeError>
         requires { 2 * n ≤ length self.now }
         ensures { MatchResult result (λ bits. bits ≡ blocks_all 2 n self.now) IsMemory }
@@ -21,7 +22,8 @@ impl BitMask<'_> {
         Bitmap::from_source(alloc, &Pairs { words, by }, n)
     }
 
-    // Returns a bit for each four bits: whether all are true.
+    // Returns a bit for each of the first `n` blocks of four bits, true if all bits of the block
+    // are true. The error is `Memory`.
     fn all_in_fours(&self, alloc: Global, n: usize) -> Result<Bitmap, ComputeError>
         requires { 4 * n ≤ length self.now }
         ensures { MatchResult result (λ bits. bits ≡ blocks_all 4 n self.now) IsMemory }
@@ -31,7 +33,9 @@ impl BitMask<'_> {
         Bitmap::from_source(alloc, &Fours { words, by }, n)
     }
 
-    // Returns a bit for each eight bits: whether all are true. Folds by fours, then by pairs.
+    // Returns a bit for each of the first `n` blocks of eight bits, true if all bits of the block
+    // are true. Folds blocks of four bits first, and then pairs of the results. The error is
+    // `Memory`.
     fn all_in_eights(&self, alloc: Global, n: usize) -> Result<Bitmap, ComputeError>
         requires few { n < 2 ^ 63 }
         requires within { 8 * n ≤ length self.now }
@@ -42,7 +46,9 @@ impl BitMask<'_> {
         Ok(eights)
     }
 
-    // Returns a bit for each sixteen bits: whether all are true. Folds by fours twice.
+    // Returns a bit for each of the first `n` blocks of sixteen bits, true if all bits of the block
+    // are true. Folds blocks of four bits first, and then blocks of four results. The error is
+    // `Memory`.
     fn all_in_sixteens(&self, alloc: Global, n: usize) -> Result<Bitmap, ComputeError>
         requires few { n < 2 ^ 62 }
         requires within { 16 * n ≤ length self.now }
@@ -53,7 +59,8 @@ impl BitMask<'_> {
         Ok(sixteens)
     }
 
-    // Returns a bit for each block: whether all its bits are true. Tests one block at a time.
+    // Returns a bit for each of the first `n` blocks of `width` bits, true if all bits of the block
+    // are true. Reads one block at a time, so it suits any width. The error is `Memory`.
     fn all_one_by_one(&self, alloc: Global, width: usize, n: usize) -> Result<Bitmap, ComputeError>
         requires { width * n ≤ length self.now }
         ensures { MatchResult result (λ bits. bits ≡ blocks_all width n self.now) IsMemory }
@@ -74,9 +81,10 @@ impl BitMask<'_> {
         )
     }
 
-    /// Returns a bit for each of `n` blocks of `width` bits: whether all bits of the block are
-    /// true. The first block begins at the first bit. An empty block counts as all true. Blocks of
-    /// 2, 4, 8 and 16 bits are folded a word at a time. The error is `Memory`.
+    /// Returns a bit for each of the first `n` blocks of `width` bits, true if all bits of the
+    /// block are true. The first block begins at the first bit. A block of no bits counts as all
+    /// true. For the widths 2, 4, 8 and 16 whole words are folded at once, for others a block at a
+    /// time. The error is `Memory`.
     pub fn all_in_blocks(
         &self,
         alloc: Global,

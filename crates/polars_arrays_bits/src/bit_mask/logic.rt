@@ -1,4 +1,4 @@
-//! Logic on borrowed windows, a word at a time.
+//! Boolean operations on borrowed windows of bits, a word at a time.
 
 ghost use Rattle.std.specs.Prelude.{◌≡◌, Bool, not, ◌&&◌, ◌||◌, length, map, MatchResult};
 ghost use Rattle.std.specs.Simd.Lanes.{zip2};
@@ -16,7 +16,8 @@ use polars_arrays_words::source::{Aligned, BitSource, Shifted};
 use std::alloc::Global;
 
 impl BitMask<'_> {
-    // Applies an operator to each pair of bits of two windows.
+    // Applies an operator to the two bits at each index: first the bit of this window, then the bit
+    // of `other`. The error is `Memory`.
     fn zip<O: BinaryOperator>(
         &self,
         alloc: Global,
@@ -34,7 +35,8 @@ impl BitMask<'_> {
         other.zip_last(alloc, operator, Shifted { words, by })
     }
 
-    // Applies an operator to each bit of a source and the bit of this window.
+    // Applies an operator to the two bits at each index: first the bit of `left`, then the bit of
+    // this window. The error is `Memory`.
     fn zip_last<O: BinaryOperator, A: BitSource + Drop>(
         &self,
         alloc: Global,
@@ -65,7 +67,7 @@ impl BitMask<'_> {
         Bitmap::from_source(alloc, &source, self.len)
     }
 
-    /// Returns the AND of each pair of bits. The error is `Memory`.
+    /// Returns the AND of the two bits at each index. The error is `Memory`.
     pub fn and(&self, alloc: Global, other: &BitMask<'_>) -> Result<Bitmap, ComputeError>
         requires { length other.now ≡ length self.now }
         ensures { MatchResult result (λ bits. bits ≡ zip2 ◌&&◌ self.now other.now) IsMemory }
@@ -73,7 +75,7 @@ impl BitMask<'_> {
         self.zip(alloc, other, And)
     }
 
-    /// Returns the OR of each pair of bits. The error is `Memory`.
+    /// Returns the OR of the two bits at each index. The error is `Memory`.
     pub fn or(&self, alloc: Global, other: &BitMask<'_>) -> Result<Bitmap, ComputeError>
         requires { length other.now ≡ length self.now }
         ensures { MatchResult result (λ bits. bits ≡ zip2 ◌||◌ self.now other.now) IsMemory }
@@ -81,7 +83,7 @@ impl BitMask<'_> {
         self.zip(alloc, other, Or)
     }
 
-    /// Returns the exclusive OR of each pair of bits. The error is `Memory`.
+    /// Returns the exclusive OR of the two bits at each index. The error is `Memory`.
     pub fn xor(&self, alloc: Global, other: &BitMask<'_>) -> Result<Bitmap, ComputeError>
         requires { length other.now ≡ length self.now }
         ensures { MatchResult result (λ bits. bits ≡ zip2 xor self.now other.now) IsMemory }
@@ -89,7 +91,7 @@ impl BitMask<'_> {
         self.zip(alloc, other, Xor)
     }
 
-    /// Returns whether the bits of each pair are equal. The error is `Memory`.
+    /// Returns for each index whether the two bits are equal. The error is `Memory`.
     pub fn xnor(&self, alloc: Global, other: &BitMask<'_>) -> Result<Bitmap, ComputeError>
         requires { length other.now ≡ length self.now }
         ensures { MatchResult result (λ bits. bits ≡ zip2 xnor self.now other.now) IsMemory }
@@ -97,7 +99,8 @@ impl BitMask<'_> {
         self.zip(alloc, other, Xnor)
     }
 
-    /// Returns `self & !other` for each pair of bits. The error is `Memory`.
+    /// Returns `a & !b` for each index, where `a` is the bit of `self`, and `b` the bit of `other`.
+    /// The error is `Memory`.
     pub fn and_not(&self, alloc: Global, other: &BitMask<'_>) -> Result<Bitmap, ComputeError>
         requires { length other.now ≡ length self.now }
         ensures { MatchResult result (λ bits. bits ≡ zip2 and_not self.now other.now) IsMemory }
@@ -105,7 +108,8 @@ impl BitMask<'_> {
         self.zip(alloc, other, AndNot)
     }
 
-    /// Returns `self | !other` for each pair of bits. The error is `Memory`.
+    /// Returns `a | !b` for each index, where `a` is the bit of `self`, and `b` the bit of `other`.
+    /// The error is `Memory`.
     pub fn or_not(&self, alloc: Global, other: &BitMask<'_>) -> Result<Bitmap, ComputeError>
         requires { length other.now ≡ length self.now }
         ensures { MatchResult result (λ bits. bits ≡ zip2 or_not self.now other.now) IsMemory }
@@ -113,7 +117,7 @@ impl BitMask<'_> {
         self.zip(alloc, other, OrNot)
     }
 
-    /// Returns the negation of each bit. The error is `Memory`.
+    /// Returns a bitmap in which each bit is negated. The error is `Memory`.
     pub fn not(&self, alloc: Global) -> Result<Bitmap, ComputeError>
         ensures { MatchResult result (λ bits. bits ≡ map not self.now) IsMemory }
     {

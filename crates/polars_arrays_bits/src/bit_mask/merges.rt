@@ -1,4 +1,5 @@
-//! Equality and inequality of rows that may be null, on borrowed windows, a word at a time.
+//! Equality and inequality of rows that may be null: combines raw comparisons with the present rows
+//! of both sides, a word at a time.
 
 ghost use Rattle.std.specs.Prelude.{◌≡◌, Bool, length, MatchResult};
 ghost use Rattle.polars_arrays_words.specs.Bits.{first_of, zip3};
@@ -14,8 +15,8 @@ use polars_arrays_words::source::{Aligned, BitSource, Placed, Shifted};
 use std::alloc::Global;
 
 impl BitMask<'_> {
-    // Returns a bitmap with the operator's result for the bits of this window, `left` and `right` at
-    // each row.
+    // Applies the operator at each index to the bits of this window, `left` and `right`, in this
+    // order. The error is `Memory`.
     fn merge<O: TernaryOperator>(
         &self,
         alloc: Global,
@@ -36,8 +37,8 @@ impl BitMask<'_> {
         left.merge_last_two(alloc, operator, Shifted { words, by }, right)
     }
 
-    // Returns a bitmap with the operator's result for the bits of `first`, this window and `third` at
-    // each row.
+    // Applies the operator at each index to the bits of `first`, this window and `third`, in this
+    // order. The error is `Memory`.
     fn merge_last_two<O: TernaryOperator, A: BitSource + Drop>(
         &self,
         alloc: Global,
@@ -58,8 +59,8 @@ impl BitMask<'_> {
         third.merge_last(alloc, operator, first, Shifted { words, by })
     }
 
-    // Returns a bitmap with the operator's result for the bits of `first`, `second` and this window
-    // at each row.
+    // Applies the operator at each index to the bits of `first`, `second` and this window, in this
+    // order. The error is `Memory`.
     fn merge_last<O: TernaryOperator, A: BitSource + Drop, B: BitSource + Drop>(
         &self,
         alloc: Global,
@@ -93,8 +94,8 @@ impl BitMask<'_> {
         Bitmap::from_source(alloc, &source, self.len)
     }
 
-    // Returns a bitmap with the operator's result for the bits of `first`, this window and `third` at
-    // each row. One loop serves windows that begin at any bit of a word.
+    // Applies the operator at each index to the bits of `first`, this window and `third`, in this
+    // order. The same loop serves windows that begin at any bit of a word. The error is `Memory`.
     fn merge_placed<O: TernaryOperator, A: BitSource + Drop>(
         &self,
         alloc: Global,
@@ -124,9 +125,9 @@ impl BitMask<'_> {
         Bitmap::from_source(alloc, &source, self.len)
     }
 
-    /// Returns for each row whether the two sides are equal, null being equal to null alone:
-    /// `(q & l & r) | !(l | r)`. `q` has the rows with equal values; `l` and `r` have the present
-    /// rows of each side. The error is `Memory`.
+    /// Returns for each row whether the two sides are equal. Null is equal only to null. `q` says
+    /// for each row whether the stored values are equal, `l` and `r` whether the row of the left
+    /// and of the right side is present. Computes `(q & l & r) | !(l | r)`. The error is `Memory`.
     pub fn merge_eq(
         alloc: Global,
         q: &BitMask<'_>,
@@ -140,9 +141,9 @@ impl BitMask<'_> {
         q.merge(alloc, l, r, MergeEq)
     }
 
-    /// Returns for each row whether the two sides differ, null being equal to null alone:
-    /// `(q & l & r) | (l ^ r)`. `q` has the rows with unequal values; `l` and `r` have the present
-    /// rows of each side. The error is `Memory`.
+    /// Returns for each row whether the two sides differ. Null is equal only to null. `q` says for
+    /// each row whether the stored values differ, `l` and `r` whether the row of the left and of
+    /// the right side is present. Computes `(q & l & r) | (l ^ r)`. The error is `Memory`.
     pub fn merge_ne(
         alloc: Global,
         q: &BitMask<'_>,
@@ -156,9 +157,10 @@ impl BitMask<'_> {
         q.merge(alloc, l, r, MergeNe)
     }
 
-    /// Returns what `merge_eq` returns, where `q` has the rows with equal values as truth values
-    /// that are not packed yet. They are joined with the masks while they are packed, so no bitmap
-    /// holds them in between. The error is `Memory`.
+    /// Returns for each row whether the two sides are equal, like `merge_eq`. The truth values of
+    /// `q` say which stored values are equal; they are not packed yet. Each word is combined with
+    /// the masks `l` and `r` as soon as it is packed, so `q` needs no bitmap. The error is
+    /// `Memory`.
     pub fn merge_eq_values<V: TruthValues>(
         alloc: Global,
         q: &V,
@@ -173,8 +175,9 @@ impl BitMask<'_> {
         l.merge_placed(alloc, MergeEq, Packed { values: q }, r)
     }
 
-    /// Returns what `merge_ne` returns, where `q` has the rows with unequal values as truth values
-    /// that are not packed yet. The error is `Memory`.
+    /// Returns for each row whether the two sides differ, like `merge_ne`. The truth values of `q`
+    /// say which stored values differ; they are not packed yet. Each word is combined with the
+    /// masks `l` and `r` as soon as it is packed, so `q` needs no bitmap. The error is `Memory`.
     pub fn merge_ne_values<V: TruthValues>(
         alloc: Global,
         q: &V,

@@ -23,7 +23,7 @@ impl Bitmap {
         self.len() - self.set_bits()
     }
 
-    /// Returns the number of places where both bitmaps are true.
+    /// Returns the number of indices at which both bitmaps have a true bit.
     pub fn num_intersections_with(&self, other: &Bitmap) -> usize
         requires { length other.now ≡ length self.now }
         ensures { result ≡ count_by (λ b. b) (zip2 ◌&&◌ self.now other.now) }
@@ -36,7 +36,7 @@ impl Bitmap {
         other.count_both(Shifted { words, by })
     }
 
-    // Counts the places where both a source and this bitmap are true.
+    // Returns the number of indices at which both `left` and this bitmap have a true bit.
     fn count_both<A: BitSource + Drop>(&self, left: A) -> usize
         ensures { result
             ≡ count_by (λ b. b) (zip2 ◌&&◌ (first_of (A.bit left) (length self.now)) self.now) }

@@ -1,4 +1,4 @@
-//! Logic on whole bitmaps, a word at a time.
+//! Boolean operations on whole bitmaps, a word at a time.
 
 ghost use Rattle.std.specs.Prelude.{◌≡◌, Bool, not, ◌&&◌, ◌||◌, length, map, MatchResult};
 ghost use Rattle.std.specs.Simd.Lanes.{zip2};
@@ -12,7 +12,7 @@ use crate::error::ComputeError;
 use std::alloc::Global;
 
 impl Bitmap {
-    /// Returns the AND of each pair of bits. The error is `Memory`.
+    /// Returns the AND of the two bits at each index. The error is `Memory`.
     pub fn and(&self, alloc: Global, other: &Bitmap) -> Result<Bitmap, ComputeError>
         requires { length other.now ≡ length self.now }
         ensures { MatchResult result (λ bits. bits ≡ zip2 ◌&&◌ self.now other.now) IsMemory }
@@ -20,7 +20,7 @@ impl Bitmap {
         BitMask::from_bitmap(self).and(alloc, &BitMask::from_bitmap(other))
     }
 
-    /// Returns the OR of each pair of bits. The error is `Memory`.
+    /// Returns the OR of the two bits at each index. The error is `Memory`.
     pub fn or(&self, alloc: Global, other: &Bitmap) -> Result<Bitmap, ComputeError>
         requires { length other.now ≡ length self.now }
         ensures { MatchResult result (λ bits. bits ≡ zip2 ◌||◌ self.now other.now) IsMemory }
@@ -28,7 +28,7 @@ impl Bitmap {
         BitMask::from_bitmap(self).or(alloc, &BitMask::from_bitmap(other))
     }
 
-    /// Returns the exclusive OR of each pair of bits. The error is `Memory`.
+    /// Returns the exclusive OR of the two bits at each index. The error is `Memory`.
     pub fn xor(&self, alloc: Global, other: &Bitmap) -> Result<Bitmap, ComputeError>
         requires { length other.now ≡ length self.now }
         ensures { MatchResult result (λ bits. bits ≡ zip2 xor self.now other.now) IsMemory }
@@ -36,7 +36,7 @@ impl Bitmap {
         BitMask::from_bitmap(self).xor(alloc, &BitMask::from_bitmap(other))
     }
 
-    /// Returns whether the bits of each pair are equal. The error is `Memory`.
+    /// Returns for each index whether the two bits are equal. The error is `Memory`.
     pub fn xnor(&self, alloc: Global, other: &Bitmap) -> Result<Bitmap, ComputeError>
         requires { length other.now ≡ length self.now }
         ensures { MatchResult result (λ bits. bits ≡ zip2 xnor self.now other.now) IsMemory }
@@ -44,7 +44,8 @@ impl Bitmap {
         BitMask::from_bitmap(self).xnor(alloc, &BitMask::from_bitmap(other))
     }
 
-    /// Returns `self & !other` for each pair of bits. The error is `Memory`.
+    /// Returns `a & !b` for each index, where `a` is the bit of `self`, and `b` the bit of `other`.
+    /// The error is `Memory`.
     pub fn and_not(&self, alloc: Global, other: &Bitmap) -> Result<Bitmap, ComputeError>
         requires { length other.now ≡ length self.now }
         ensures { MatchResult result (λ bits. bits ≡ zip2 and_not self.now other.now) IsMemory }
@@ -52,7 +53,8 @@ impl Bitmap {
         BitMask::from_bitmap(self).and_not(alloc, &BitMask::from_bitmap(other))
     }
 
-    /// Returns `self | !other` for each pair of bits. The error is `Memory`.
+    /// Returns `a | !b` for each index, where `a` is the bit of `self`, and `b` the bit of `other`.
+    /// The error is `Memory`.
     pub fn or_not(&self, alloc: Global, other: &Bitmap) -> Result<Bitmap, ComputeError>
         requires { length other.now ≡ length self.now }
         ensures { MatchResult result (λ bits. bits ≡ zip2 or_not self.now other.now) IsMemory }
@@ -60,16 +62,16 @@ impl Bitmap {
         BitMask::from_bitmap(self).or_not(alloc, &BitMask::from_bitmap(other))
     }
 
-    /// Returns the negation of each bit. The error is `Memory`.
+    /// Returns a bitmap in which each bit is negated. The error is `Memory`.
     pub fn not(&self, alloc: Global) -> Result<Bitmap, ComputeError>
         ensures { MatchResult result (λ bits. bits ≡ map not self.now) IsMemory }
     {
         BitMask::from_bitmap(self).not(alloc)
     }
 
-    /// Returns for each row whether the two sides are equal, null being equal to null alone:
-    /// `(q & l & r) | !(l | r)`. `q` has the rows with equal values; `l` and `r` have the present
-    /// rows of each side. The error is `Memory`.
+    /// Returns for each row whether the two sides are equal. Null is equal only to null. `q` says
+    /// for each row whether the stored values are equal, `l` and `r` whether the row of the left
+    /// and of the right side is present. Computes `(q & l & r) | !(l | r)`. The error is `Memory`.
     pub fn merge_eq(
         alloc: Global,
         q: &Bitmap,
@@ -88,9 +90,9 @@ impl Bitmap {
         )
     }
 
-    /// Returns for each row whether the two sides differ, null being equal to null alone:
-    /// `(q & l & r) | (l ^ r)`. `q` has the rows with unequal values; `l` and `r` have the present
-    /// rows of each side. The error is `Memory`.
+    /// Returns for each row whether the two sides differ. Null is equal only to null. `q` says for
+    /// each row whether the stored values differ, `l` and `r` whether the row of the left and of
+    /// the right side is present. Computes `(q & l & r) | (l ^ r)`. The error is `Memory`.
     pub fn merge_ne(
         alloc: Global,
         q: &Bitmap,
