@@ -28,7 +28,8 @@ use polars_arrays_numbers::offset::Offset;
 use std::alloc::Global;
 use std::marker::Model;
 
-/// An array of byte strings between offsets, with an optional validity.
+/// An array of byte strings, with an optional validity. All strings lie in one buffer of bytes.
+/// Offsets say where each string begins and ends.
 #[derive(Drop)]
 pub struct BinaryArray<O: Offset> {
     offsets: Buffer<O>,
@@ -52,15 +53,16 @@ impl<O: Offset> Model for BinaryArray<O> {
 }
 
 impl<O: Offset> BinaryArray<O> {
-    /// Creates an array of the strings between neighbouring offsets: row `i` is the bytes from
-    /// offset `i` up to offset `i + 1`. The first offset need not be 0. The error is
-    /// - `Length`, if the validity does not have a bit for each row (rows are one fewer than
-    ///   offsets, or none),
-    /// - then `Offsets` with the first row whose offsets are not
-    ///   `0 <= offsets[i] <= offsets[i + 1] <= values.len()`; with row 0, if there is no offset, or
-    ///   if the only one is not in `0..=values.len()`.
+    /// Creates an array of byte strings: row `i` has the bytes from offset `i` up to offset
+    /// `i + 1`, which is excluded. The first offset need not be 0. The errors, in the order of the
+    /// checks, are
+    /// - `Length`, if the validity does not have one bit per row (there is one row less than there
+    ///   are offsets, and no row without offsets),
+    /// - `Offsets` with the first row for which `0 <= offsets[i] <= offsets[i + 1] <= values.len()`
+    ///   does not hold; with row 0, if there are no offsets, or if the only one is not in
+    ///   `0..=values.len()`.
     ///
-    /// Offsets of null rows are checked too.
+    /// The offsets of null rows are checked too.
     #[tactic(auto, using(crate::proofs::OffsetWindows::faults))]
     pub fn try_new(
         offsets: Buffer<O>,
@@ -92,7 +94,7 @@ impl<O: Offset> BinaryArray<O> {
         }
     }
 
-    /// Returns the offsets, one more than rows.
+    /// Returns the offsets. There is one offset more than there are rows.
     pub fn offsets(&self) -> &[O]
         ensures offsets { result.now ≡ self.now.offsets }
         ensures good { AreGood (length self.now.values) (places O.value result.now) }
@@ -108,14 +110,14 @@ impl<O: Offset> BinaryArray<O> {
         let _offsets = &self.offsets;
     }
 
-    /// Returns the bytes that the offsets point into, including those of masked rows and of no row.
+    /// Returns all stored bytes, including those of masked rows and those that belong to no row.
     pub fn values(&self) -> &[u8]
         ensures { result.now ≡ self.now.values }
     {
         self.values.as_slice()
     }
 
-    /// Returns string `i`, even if its row is null.
+    /// Returns the bytes of row `i`, also if the row is masked.
     #[tactic(auto, using(crate::proofs::OffsetWindows::offset_rows))]
     pub fn value(&self, i: usize) -> &[u8]
         requires { i < row_count self.now.offsets }
@@ -124,14 +126,16 @@ impl<O: Offset> BinaryArray<O> {
         string_at(self.offsets(), self.values(), i)
     }
 
-    /// Borrows the array with its slices, for a loop over its strings.
+    /// Borrows the array together with its offsets and bytes as slices. Used for loops over its
+    /// strings.
     pub fn lent(&self) -> LentStrings<'_, O>
         ensures { result.array.now ≡ self.now }
     {
         LentStrings::new(self)
     }
 
-    /// Keeps the `n` rows from row `at` on. No byte is moved or dropped.
+    /// Slices the array in place: only the `n` rows from row `at` on remain. The stored bytes don't
+    /// change.
     #[tactic(auto, using(crate::proofs::OffsetWindows::slices))]
     pub fn slice(&mut self, at: usize, n: usize)
         requires { at + n ≤ row_count self.old.offsets }
@@ -166,7 +170,7 @@ impl<O: Offset> BinaryArray<O> {
 }
 
 impl<O: OffsetType> BinaryArray<O> {
-    /// Returns the array's type. Does not allocate, so it succeeds always.
+    /// Returns the array's type. Always succeeds, since it does not allocate.
     pub fn dtype(&self, _alloc: Global) -> Result<ArrowDataType, ComputeError>
         ensures dtype { MatchResult result (λ dtype. kind_of dtype ≡ O.binary_kind) IsMemory }
         ensures succeeds { IsOk result }

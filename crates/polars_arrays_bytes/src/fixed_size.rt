@@ -1,4 +1,4 @@
-//! Arrays of byte strings of one size.
+//! Arrays of byte strings of one fixed size.
 
 ghost use Rattle.std.specs.Prelude.{◌≡◌, ◌+◌, ◌*◌, ◌<◌, ◌≤◌, [], length, slice_index_or, IsOk};
 ghost use Rattle.std.specs.Prelude.{MatchResult, IfOk, IfErr, ⊤, refl};
@@ -26,7 +26,7 @@ use std::marker::Model;
 /// An array of byte strings that all have the same number of bytes, with an optional validity.
 #[derive(Drop)]
 pub struct FixedSizeBinaryArray {
-    // bytes a string
+    // number of bytes of each string
     size: usize,
     // number of strings; the bytes alone do not determine it if `size` is 0
     count: usize,
@@ -48,9 +48,9 @@ impl Model for FixedSizeBinaryArray {
 }
 
 impl FixedSizeBinaryArray {
-    /// Creates an array of `len` strings of `size` bytes each, one after the other in `values`. The
-    /// error is `Length`, if the validity does not have a bit for each string, or if there are not
-    /// `size * len` bytes.
+    /// Creates an array of `len` byte strings of `size` bytes each, which follow one another in
+    /// `values`. The error is `Length`: the validity does not have one bit per string, or `values`
+    /// does not have `size * len` bytes.
     pub fn try_new(
         size: usize,
         len: usize,
@@ -90,7 +90,7 @@ impl FixedSizeBinaryArray {
         self.values.as_slice()
     }
 
-    /// Returns string `i`, even if its row is null.
+    /// Returns the bytes of row `i`, also if the row is masked.
     #[tactic(auto, using(crate::proofs::Windows::sized))]
     pub fn value(&self, i: usize) -> &[u8]
         requires { i < self.now.count }
@@ -100,7 +100,7 @@ impl FixedSizeBinaryArray {
         string_at(self.values.as_slice(), self.size, i)
     }
 
-    /// Keeps the `n` rows from row `at` on. No byte is moved.
+    /// Slices the array in place: only the `n` rows from row `at` on remain. No byte is moved.
     #[tactic(auto, using(crate::proofs::Windows::sized))]
     pub fn slice(&mut self, at: usize, n: usize)
         requires { at + n ≤ self.old.count }
@@ -136,7 +136,7 @@ impl FixedSizeBinaryArray {
         })
     }
 
-    /// Returns the array's type. Does not allocate, so it succeeds always.
+    /// Returns the array's type. Always succeeds, since it does not allocate.
     pub fn dtype(&self, _alloc: Global) -> Result<ArrowDataType, ComputeError>
         ensures dtype { MatchResult result
             (λ dtype. kind_of dtype ≡ FixedSizeBinaryKind self.now.size) IsMemory }
@@ -199,7 +199,7 @@ impl ByteRows for FixedSizeBinaryArray {
     ghost slots_law = { λ a. refl };
 }
 
-// Returns string `i` of strings of `size` bytes.
+// Returns string `i` of strings of `size` bytes each, a slice of `values`.
 #[inline]
 pub(crate) fn string_at(values: &[u8], size: usize, i: usize) -> &[u8]
     requires { size * i + size ≤ length values.now }
@@ -209,7 +209,8 @@ pub(crate) fn string_at(values: &[u8], size: usize, i: usize) -> &[u8]
     &values[start..start + size]
 }
 
-// Keeps the bytes of `n` strings from string `at` on.
+// Slices the bytes in place: only those of the `n` strings from string `at` on remain. Each string
+// has `size` bytes.
 fn keep_strings(values: &mut Buffer<u8>, size: usize, at: usize, n: usize)
     requires { size * at + size * n ≤ length values.old.items }
     ensures { values.new

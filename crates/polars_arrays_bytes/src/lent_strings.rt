@@ -1,4 +1,4 @@
-//! Byte strings between offsets, with the slices of offsets and bytes.
+//! A borrowed array of byte strings, together with its offsets and bytes as slices.
 
 ghost use Rattle.std.specs.Prelude.{◌≡◌, ⊤, refl};
 ghost use Rattle.polars_arrays_bytes.specs.OffsetStrings.{offset_strings};
@@ -16,8 +16,8 @@ use polars_arrays_flat::mask::Mask;
 use polars_arrays_numbers::offset::Offset;
 use std::alloc::Global;
 
-/// An array of byte strings between offsets, with the slices that hold them. A loop over strings
-/// reads these slices, and need not get them from the array's buffers each time.
+/// A borrowed array of byte strings, together with its offsets and bytes as slices. A loop over the
+/// strings reads these slices, and need not get them from the array's buffers for each string.
 #[derive(Drop)]
 pub struct LentStrings<'a, O: Offset> {
     /// The array.
@@ -29,7 +29,7 @@ pub struct LentStrings<'a, O: Offset> {
 }
 
 impl<'a, O: Offset> LentStrings<'a, O> {
-    /// Borrows an array with its slices.
+    /// Borrows an array and gets its slices.
     pub fn new(array: &'a BinaryArray<O>) -> LentStrings<'a, O>
         ensures { result.array.now ≡ array.now }
     {

@@ -1,4 +1,4 @@
-//! Arrays of byte strings: strings between offsets, texts among them, and strings of one size.
+//! Arrays of byte strings and texts between offsets, and arrays of byte strings of one fixed size.
 #![tactic(auto)]
 
 pub mod binary;

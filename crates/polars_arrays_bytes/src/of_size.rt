@@ -1,4 +1,4 @@
-//! Byte strings whose size is a constant.
+//! Arrays of byte strings whose size is a constant.
 
 ghost use Rattle.std.specs.Prelude.{◌≡◌, ⊤, refl};
 ghost use Rattle.polars_arrays_bytes.specs.SizedStrings.{sized_strings};
@@ -14,7 +14,8 @@ use polars_arrays_flat::byte_rows::ByteRows;
 use polars_arrays_flat::mask::Mask;
 use std::alloc::Global;
 
-/// An array whose strings have `SIZE` bytes each. Loops over it are compiled for that size.
+/// A borrowed array whose byte strings have `SIZE` bytes each. The compiler makes loops for that
+/// size.
 #[derive(Drop)]
 pub struct OfSize<'a, const SIZE: usize> {
     /// The array.
@@ -23,7 +24,7 @@ pub struct OfSize<'a, const SIZE: usize> {
 }
 
 impl<'a, const SIZE: usize> OfSize<'a, SIZE> {
-    /// Wraps an array whose strings have `SIZE` bytes each.
+    /// Borrows an array whose byte strings have `SIZE` bytes each.
     pub fn new(array: &'a FixedSizeBinaryArray) -> OfSize<'a, SIZE>
         requires { array.now.size ≡ SIZE }
         ensures { result.array.now ≡ array.now }

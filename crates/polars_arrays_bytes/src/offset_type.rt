@@ -8,12 +8,13 @@ ghost use Rattle.polars_arrays_flat.specs.Kind.{LargeUtf8Kind};
 use polars_arrays_flat::data_type::ArrowDataType;
 use polars_arrays_numbers::offset::Offset;
 
-/// An offset type. Each has a type of arrays of byte strings and one of arrays of texts.
+/// A type of offsets, with two types of arrays: one of byte strings and one of texts, such as
+/// `Binary` and `Utf8` for `i32`.
 pub trait OffsetType: Offset {
-    // Kind of an array of byte strings with these offsets.
+    // The kind of an array of byte strings with these offsets.
     ghost binary_kind: { Kind };
 
-    // Kind of an array of texts with these offsets.
+    // The kind of an array of texts with these offsets.
     ghost text_kind: { Kind };
 
     /// Returns the type of an array of byte strings with these offsets.

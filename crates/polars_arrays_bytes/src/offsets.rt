@@ -1,4 +1,4 @@
-//! Offsets: the number of rows, the place of each row, and the first bad row.
+//! Offsets of byte strings: counts and checks rows, and finds the bytes of a row.
 
 ghost use Rattle.std.specs.Prelude.{◌≡◌, ◌+◌, ◌<◌, ◌≤◌, ◌↔◌, IsTrue, length, take};
 ghost use Rattle.std.specs.Option.{MatchOption};
@@ -12,14 +12,16 @@ ghost use Rattle.polars_arrays_numbers.specs.Naturals.{natural_of};
 use polars_arrays_bits::buffer::Buffer;
 use polars_arrays_numbers::offset::Offset;
 
-/// Returns the number of rows between offsets.
+/// Returns the number of rows: one less than the number of offsets, or 0 if there are no offsets.
 pub fn row_count<O: Offset>(offsets: &[O]) -> usize
     ensures { result ≡ row_count offsets.now }
 {
     offsets.len().saturating_sub(1)
 }
 
-/// Returns the first row that is not good over `n` bytes, or row 0 if there is no offset.
+/// Returns the first row that is bad for `n` bytes: `0 <= offsets[i] <= offsets[i + 1] <= n` does
+/// not hold. Returns 0 also if there are no offsets, or if the only one is not in `0..=n`. Returns
+/// `None` if all rows are good.
 #[tactic(auto, using(crate::proofs::OffsetWindows::faults))]
 pub fn first_bad_row<O: Offset>(offsets: &[O], n: usize) -> Option<usize>
     ensures { MatchOption result (AreGood n (places O.value offsets.now))
@@ -39,7 +41,7 @@ pub fn first_bad_row<O: Offset>(offsets: &[O], n: usize) -> Option<usize>
     None
 }
 
-// Returns whether there is a first offset, and it is at most `n`.
+// Returns whether there are offsets, and the first one is in `0..=n`.
 fn starts_within<O: Offset>(offsets: &[O], n: usize) -> bool
     ensures { IsTrue result ↔ IsWithin n (place_at (places O.value offsets.now) 0) }
 {
@@ -49,7 +51,7 @@ fn starts_within<O: Offset>(offsets: &[O], n: usize) -> bool
     }
 }
 
-// Returns whether the last offset is at most `n`.
+// Returns whether there are offsets, and the last one is in `0..=n`.
 fn ends_within<O: Offset>(offsets: &[O], n: usize) -> bool
     ensures { IsTrue result
         → IsWithin n (place_at (places O.value offsets.now) (row_count offsets.now)) }
@@ -60,7 +62,7 @@ fn ends_within<O: Offset>(offsets: &[O], n: usize) -> bool
     }
 }
 
-// Returns whether no offset is less than the one before it. The loop has no branch.
+// Returns whether no offset is less than the one before it. The loop's body has no branch.
 fn are_rising<O: Offset>(offsets: &[O]) -> bool
     ensures { IsTrue result → AreRising O.value offsets.now }
 {
@@ -81,7 +83,7 @@ fn is_within<O: Offset>(offset: O, n: usize) -> bool
     }
 }
 
-// Returns whether the two offsets of a row do not fall and lie within `n` bytes.
+// Returns whether row `row` is good for `n` bytes: `0 <= offsets[row] <= offsets[row + 1] <= n`.
 fn is_good_row<O: Offset>(offsets: &[O], n: usize, row: usize) -> bool
     requires { row + 1 < length offsets.now }
     ensures { IsTrue result ↔ IsGoodRow n (places O.value offsets.now) row }
@@ -89,7 +91,7 @@ fn is_good_row<O: Offset>(offsets: &[O], n: usize, row: usize) -> bool
     bounds(offsets[row], offsets[row + 1], n)
 }
 
-// Returns whether `from` and `to` bound a row within `n` bytes: 0 <= from <= to <= n.
+// Returns whether `0 <= from <= to <= n`.
 fn bounds<O: Offset>(from: O, to: O, n: usize) -> bool
     ensures { IsTrue result ↔ Bounds n (natural_of (O.value from)) (natural_of (O.value to)) }
 {
@@ -99,7 +101,7 @@ fn bounds<O: Offset>(from: O, to: O, n: usize) -> bool
     }
 }
 
-// Returns the bytes of row `i`.
+// Returns the bytes of row `i`, a slice of `values`.
 #[inline]
 pub(crate) fn string_at<'a, O: Offset>(offsets: &[O], values: &'a [u8], i: usize) -> &'a [u8]
     requires row { i < row_count offsets.now }
@@ -110,7 +112,8 @@ pub(crate) fn string_at<'a, O: Offset>(offsets: &[O], values: &'a [u8], i: usize
     &values[from..to]
 }
 
-// Returns all bytes from the start of row `i` on, and the length of the row.
+// Returns the bytes from the first one of row `i` to the end of `values`, and the length of row
+// `i`.
 #[inline(always)]
 pub(crate) fn string_on<'a, O: Offset>(
     offsets: &[O],
@@ -127,7 +130,8 @@ pub(crate) fn string_on<'a, O: Offset>(
     (&values[from..], to - from)
 }
 
-/// Keeps the offsets of the `n` rows from row `at` on.
+/// Slices the offsets in place: only those of the `n` rows from row `at` on remain, `n + 1`
+/// offsets.
 pub fn keep_rows<O: Offset>(offsets: &mut Buffer<O>, at: usize, n: usize)
     requires { at + n < length offsets.old.items }
     ensures { offsets.new

@@ -32,7 +32,8 @@ use std::alloc::Global;
 use std::marker::Model;
 use std::str::{from_utf8, from_utf8_unchecked};
 
-/// An array of texts between offsets, with an optional validity.
+/// An array of texts in UTF-8, with an optional validity. All texts lie in one buffer of bytes.
+/// Offsets say where each text begins and ends.
 #[derive(Drop)]
 pub struct Utf8Array<O: Offset> {
     binary: BinaryArray<O>,
@@ -53,9 +54,10 @@ impl<O: Offset> Model for Utf8Array<O> {
 }
 
 impl<O: Offset> Utf8Array<O> {
-    /// Creates an array of the texts between neighbouring offsets, whose UTF-8 is in `values`. The
-    /// errors are those of `BinaryArray::try_new`, and after them `NotUtf8` with the first row,
-    /// null or not, whose bytes alone are not UTF-8.
+    /// Creates an array of texts: row `i` has the bytes from offset `i` up to offset `i + 1`, which
+    /// is excluded. The errors are those of `BinaryArray::try_new`, and after these checks
+    /// `NotUtf8` with the first row whose bytes, taken alone, are not UTF-8. Null rows are checked
+    /// too.
     pub fn try_new(
         offsets: Buffer<O>,
         values: Buffer<u8>,
@@ -80,7 +82,7 @@ impl<O: Offset> Utf8Array<O> {
         }
     }
 
-    /// Returns the array as an array of byte strings.
+    /// Returns the array of the texts' bytes.
     pub fn as_binary(&self) -> &BinaryArray<O>
         ensures binary { result.now ≡ self.now }
         ensures texts { AreTexts (offset_strings O.value result.now) }
@@ -88,14 +90,15 @@ impl<O: Offset> Utf8Array<O> {
         &self.binary
     }
 
-    /// Borrows the array with its slices, for a loop over the texts.
+    /// Borrows the array together with its offsets and bytes as slices. Used for loops over its
+    /// texts.
     pub fn lent(&self) -> LentStrings<'_, O>
         ensures { result.array.now ≡ self.now }
     {
         self.binary.lent()
     }
 
-    /// Returns the offsets, one more than rows.
+    /// Returns the offsets. There is one offset more than there are rows.
     pub fn offsets(&self) -> &[O]
         ensures offsets { result.now ≡ self.now.offsets }
         ensures good { AreGood (length self.now.values) (places O.value result.now) }
@@ -103,7 +106,7 @@ impl<O: Offset> Utf8Array<O> {
         self.binary.offsets()
     }
 
-    /// Returns text `i`, even if its row is null.
+    /// Returns the text of row `i`, also if the row is masked.
     pub fn value(&self, i: usize) -> &str
         requires { i < row_count self.now.offsets }
         ensures { result.now ≡ slice_index_or (offset_strings O.value self.now) i [] }
@@ -112,7 +115,8 @@ impl<O: Offset> Utf8Array<O> {
         unsafe { from_utf8_unchecked(bytes) }
     }
 
-    /// Keeps the `n` rows from row `at` on. No byte is moved or dropped.
+    /// Slices the array in place: only the `n` rows from row `at` on remain. The stored bytes don't
+    /// change.
     pub fn slice(&mut self, at: usize, n: usize)
         requires { at + n ≤ row_count self.old.offsets }
         ensures stored { self.new
@@ -139,7 +143,7 @@ impl<O: Offset> Utf8Array<O> {
 }
 
 impl<O: OffsetType> Utf8Array<O> {
-    /// Returns the array's type. Does not allocate, so it succeeds always.
+    /// Returns the array's type. Always succeeds, since it does not allocate.
     pub fn dtype(&self, _alloc: Global) -> Result<ArrowDataType, ComputeError>
         ensures dtype { MatchResult result (λ dtype. kind_of dtype ≡ O.text_kind) IsMemory }
         ensures succeeds { IsOk result }
@@ -200,8 +204,8 @@ impl<O: Offset> ByteRows for Utf8Array<O> {
     ghost slots_law = { λ a. refl };
 }
 
-// Returns the first row that is not UTF-8, or `None`. The bytes are tested as a whole, and row by
-// row only if that does not show that each row is UTF-8.
+// Returns the first row that is not UTF-8, or `None` if all rows are. First checks the bytes of all
+// rows at once. Checks row by row only if that does not show that each row is UTF-8.
 fn first_bad_text<O: Offset>(binary: &BinaryArray<O>) -> Option<usize>
     ensures { MatchOption result (AreTexts (offset_strings O.value binary.now))
         (IsFirstOther (offset_strings O.value binary.now)) }
@@ -217,8 +221,8 @@ fn first_bad_text<O: Offset>(binary: &BinaryArray<O>) -> Option<usize>
     None
 }
 
-// Returns whether the bytes as a whole show that each row is a text: they are ASCII, or they are
-// UTF-8 and no row begins inside a character.
+// Returns whether one check of the bytes of all rows shows that each row is UTF-8: the bytes are
+// ASCII, or they are UTF-8 and no row begins inside a character.
 fn show_texts<O: Offset>(offsets: &[O], values: &[u8]) -> bool
     requires { AreGood (length values.now) (places O.value offsets.now) }
     ensures { IsTrue result → AreTexts (strings_between (places O.value offsets.now) values.now) }
@@ -231,7 +235,7 @@ fn show_texts<O: Offset>(offsets: &[O], values: &[u8]) -> bool
     is_text(bytes) && begin_characters(offsets, values, to)
 }
 
-// Returns the first and the last offset.
+// Returns the first and the last offset, as indices of bytes.
 fn ends<O: Offset>(offsets: &[O], values: &[u8]) -> (usize, usize)
     requires { AreGood (length values.now) (places O.value offsets.now) }
     ensures from { place_at (places O.value offsets.now) 0 ≡ Some result.0 }
@@ -241,8 +245,8 @@ fn ends<O: Offset>(offsets: &[O], values: &[u8]) -> (usize, usize)
     (offsets[0].place(), offsets[row_count(offsets)].place())
 }
 
-// Returns whether no row begins with a byte that continues a character. No branch depends on the
-// bytes.
+// Returns whether no row begins inside a character, that is, with a continuation byte. `end` is the
+// last offset. No branch depends on the bytes.
 fn begin_characters<O: Offset>(offsets: &[O], values: &[u8], end: usize) -> bool
     requires good { AreGood (length values.now) (places O.value offsets.now) }
     requires within { end ≤ length values.now }
@@ -255,7 +259,8 @@ fn begin_characters<O: Offset>(offsets: &[O], values: &[u8], end: usize) -> bool
     begun
 }
 
-// Returns whether a place below `end` has a byte that does not continue a character.
+// Returns whether the byte at index `at` is not a continuation byte of UTF-8. Returns `true` if
+// `at` is not below `end`.
 fn begins_character(values: &[u8], at: usize, end: usize) -> bool
     requires { end ≤ length values.now }
     ensures { IsTrue result → IsBegun values.now end at }
@@ -267,7 +272,7 @@ fn begins_character(values: &[u8], at: usize, end: usize) -> bool
     (byte < 128) | (byte >= 192)
 }
 
-// Returns whether bytes are UTF-8.
+// Returns whether `bytes` is UTF-8.
 fn is_text(bytes: &[u8]) -> bool
     ensures { IsTrue result ↔ IsUtf8 bytes.now }
 {

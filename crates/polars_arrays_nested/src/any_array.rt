@@ -27,7 +27,7 @@ use polars_arrays_views::binary_view::BinaryViewArray;
 use polars_arrays_views::text_view::Utf8ViewArray;
 use std::alloc::Global;
 
-// A match on an array: one expression for every kind. The kinds that hold arrays may have
+// Matches on an array of any kind, with one expression for all kinds. Nested kinds may have
 // expressions of their own.
 macro_rules! each_array {
     ($any:expr, $array:ident => $each:expr) => {
@@ -68,7 +68,8 @@ macro_rules! each_array {
 
 pub(crate) use each_array;
 
-// A map of an array to one of the same kind, by an expression that returns its parts in `Ok`.
+// Maps an array to an array of the same kind. For the listed kinds, `$each` returns the new array
+// in a `Result`, and the macro wraps it in `AnyArray`. For other kinds the result is `$other`.
 macro_rules! map_array {
     ($any:expr, $array:ident => $each:expr, $($kind:ident)+, _ => $other:expr) => {
         match $any {
@@ -78,7 +79,7 @@ macro_rules! map_array {
     };
 }
 
-/// An array of any kind, including those that hold arrays.
+/// An array of any kind, with or without child arrays.
 #[cycle(arrays)]
 #[derive(Drop)]
 pub enum AnyArray {
@@ -123,8 +124,9 @@ impl AnyArray {
         )
     }
 
-    /// Returns the validity that the array stores: a bit for each row, 0 if the row is masked, or
-    /// `None` if no row is. A dictionary's validity is that of its keys.
+    /// Returns the validity that the array stores: a bit for each row, 0 if the row is masked.
+    /// Returns `None` if the array stores no validity. The validity of a dictionary is that of its
+    /// keys.
     #[tactic(auto, using(crate::proofs::Lengths::lengths))]
     pub fn validity(&self) -> Option<&Bitmap>
         requires { IsGood self.now }
@@ -134,7 +136,7 @@ impl AnyArray {
         each_array!(self, array => array.validity())
     }
 
-    /// Keeps the `n` rows from row `at` on.
+    /// Slices the array in place: only the `n` rows from row `at` on remain.
     #[cycle(slices)]
     #[tactic(auto, using(crate::proofs::Cuts::leaf_cuts))]
     pub fn slice(&mut self, at: usize, n: usize)
@@ -159,8 +161,8 @@ impl AnyArray {
         )
     }
 
-    // Clones an array that holds no arrays. A separate function, so that each level of a nested
-    // array takes a third less stack.
+    // Clones an array that has no child arrays. This is a separate function, so that each level of
+    // a nested array takes a third less stack in `clone_array`.
     #[tactic(auto, using(crate::proofs::Flat::flat))]
     fn clone_flat(&self, alloc: Global) -> Result<AnyArray, ComputeError>
         requires { IsTrue (is_flat self.now) }

@@ -1,4 +1,4 @@
-//! Types of arrays as values, and their clones.
+//! Returns the types of arrays as `ArrowDataType`, and clones such types.
 
 ghost use Rattle.std.specs.Prelude.{◌≡◌, MatchResult};
 ghost use Rattle.polars_arrays_bits.specs.Errors.{IsMemory};
@@ -118,7 +118,7 @@ pub fn clone_type(alloc: Global, dtype: &ArrowDataType) -> Result<ArrowDataType,
     }
 }
 
-// Clones a type into a box.
+// Clones a type into a new box. The error is `Memory`.
 #[cycle(clone_types)]
 fn boxed_type(alloc: Global, dtype: &ArrowDataType) -> Result<Box<ArrowDataType>, ComputeError>
     ensures { MatchResult result (λ copy. kind_of copy.value ≡ kind_of dtype.now) IsMemory }
@@ -128,7 +128,7 @@ fn boxed_type(alloc: Global, dtype: &ArrowDataType) -> Result<Box<ArrowDataType>
     Ok(copy)
 }
 
-/// Clones a list of fields. The error is `Memory`.
+/// Clones a list of fields, with their names and types. The error is `Memory`.
 #[cycle(clone_types)]
 pub fn clone_fields(alloc: Global, fields: &[Field]) -> Result<Vec<Field>, ComputeError>
     ensures { MatchResult result (λ copies. kinds_of copies.items ≡ kinds_of fields.now) IsMemory }
@@ -141,7 +141,7 @@ pub fn clone_fields(alloc: Global, fields: &[Field]) -> Result<Vec<Field>, Compu
     Ok(copies)
 }
 
-// Clones a field.
+// Clones a field, with its name and type. The error is `Memory`.
 #[cycle(clone_types)]
 fn clone_field(alloc: Global, field: &Field) -> Result<Field, ComputeError>
     ensures { MatchResult result (λ copy. IsSameField copy field.now) IsMemory }

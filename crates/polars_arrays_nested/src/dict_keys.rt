@@ -1,4 +1,4 @@
-//! The keys of dictionaries.
+//! The keys of an array of a dictionary's entries.
 
 ghost use Rattle.std.specs.Option.{MatchOption, option_copied};
 ghost use Rattle.std.specs.Prelude.{◌≡◌, ◌↔◌, ◌+◌, ◌<◌, ◌≤◌, ℕ, Bool, List, Some, IsTrue};
@@ -21,7 +21,7 @@ use polars_arrays_flat::validity::is_present;
 use polars_arrays_numbers::dictionary_key::DictionaryKey;
 use std::alloc::Global;
 
-// A match on keys, with one expression for all types of keys.
+// Matches on keys, with one expression for all types of keys.
 macro_rules! each_type {
     ($keys:expr, $of_type:ident => $each:expr) => {
         match $keys {
@@ -59,7 +59,8 @@ impl DictKeys {
         each_type!(self, keys => keys.len())
     }
 
-    /// Returns a bit for each key, set if it is present, or `None` if no key is masked.
+    /// Returns the validity of the keys: a bit for each key, 0 if the key is masked. Returns `None`
+    /// if there is no validity.
     #[tactic(auto, using(crate::proofs::Places::places_of))]
     pub fn validity(&self) -> Option<&Bitmap>
         ensures mask { option_copied result ≡ key_validity self.now }
@@ -91,8 +92,8 @@ impl DictKeys {
         }
     }
 
-    /// Returns key `i` as the index of an entry, even if it is masked. A negative key, which only a
-    /// masked row can have, gives 0.
+    /// Returns key `i` as the index of an entry, even if the key is masked. Returns 0 for a
+    /// negative key, which in a dictionary only a masked row can have.
     #[inline(always)]
     #[tactic(auto, using(crate::proofs::Places::places_of))]
     pub fn key(&self, i: usize) -> usize
@@ -102,7 +103,8 @@ impl DictKeys {
         each_type!(self, keys => entry_of(keys.values(), i))
     }
 
-    /// Returns the first row whose present key names none of `n` entries.
+    /// Returns the first row whose key is negative, or not below `n`, though the key is present.
+    /// `n` is the number of entries. Returns `None` if there is no such row.
     pub fn first_bad_key(&self, n: usize) -> Option<usize>
         ensures { MatchOption result (NameEntries n (key_validity self.now) (key_places self.now))
             (IsFirstBadKey n (key_validity self.now) (key_places self.now)) }
@@ -110,7 +112,7 @@ impl DictKeys {
         each_type!(self, keys => first_bad(keys, n))
     }
 
-    /// Keeps the `n` keys from key `at` on. No key is moved.
+    /// Slices the keys in place: only the `n` keys from key `at` on remain. No key is moved.
     #[tactic(auto, using(crate::proofs::Places::places_of))]
     pub fn slice(&mut self, at: usize, n: usize)
         requires { at + n ≤ key_count self.old }
@@ -121,7 +123,7 @@ impl DictKeys {
         each_type!(self, keys => keys.slice(at, n))
     }
 
-    /// Clones the keys. Shared values are not copied. The error is `Memory`.
+    /// Clones the keys. Owned values are copied, shared ones are not. The error is `Memory`.
     pub fn clone_keys(&self, alloc: Global) -> Result<DictKeys, ComputeError>
         ensures { MatchResult result (λ copy. copy ≡ self.now) IsMemory }
     {
@@ -138,7 +140,7 @@ impl DictKeys {
     }
 }
 
-// Returns key `i` as an index, or 0 if it is negative.
+// Returns key `i` as the index of an entry, or 0 if the key is negative.
 #[inline(always)]
 #[tactic(auto, using(crate::proofs::Places::places_of))]
 fn entry_of<K: DictionaryKey>(keys: &[K], i: usize) -> usize
@@ -148,7 +150,8 @@ fn entry_of<K: DictionaryKey>(keys: &[K], i: usize) -> usize
     keys[i].to_entry().unwrap_or(0)
 }
 
-// Returns the first row whose present key names none of `n` entries.
+// Returns the first row whose key is negative, or not below `n`, though the key is present. `n` is
+// the number of entries. Returns `None` if there is no such row.
 fn first_bad<K: DictionaryKey>(keys: &PrimitiveArray<K>, n: usize) -> Option<usize>
     ensures { MatchOption result (NameEntries n keys.now.validity (places K.value keys.now.values))
         (IsFirstBadKey n keys.now.validity (places K.value keys.now.values)) }
@@ -161,7 +164,7 @@ fn first_bad<K: DictionaryKey>(keys: &PrimitiveArray<K>, n: usize) -> Option<usi
     None
 }
 
-// Returns whether the key of a row is masked or names one of `n` entries.
+// Returns whether the key of a row is masked, or is the index of one of `n` entries.
 #[tactic(auto, using(crate::proofs::Places::places_of))]
 fn is_good_key<K: DictionaryKey>(keys: &PrimitiveArray<K>, row: usize, n: usize) -> bool
     requires { row < length keys.now.values }
@@ -174,7 +177,7 @@ fn is_good_key<K: DictionaryKey>(keys: &PrimitiveArray<K>, row: usize, n: usize)
     }
 }
 
-// Returns whether the key of a row names one of `n` entries.
+// Returns whether the key of a row is the index of one of `n` entries.
 #[tactic(auto, using(crate::proofs::Places::places_of))]
 fn names_entry<K: DictionaryKey>(keys: &[K], row: usize, n: usize) -> bool
     requires { row < length keys.now }

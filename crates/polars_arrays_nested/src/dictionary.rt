@@ -1,4 +1,4 @@
-//! Arrays of keys into a dictionary.
+//! Arrays of keys to the entries of a dictionary.
 
 ghost use Rattle.std.specs.Prelude.{◌≡◌, ◌<◌, ◌+◌, ◌≤◌, ℕ, true, IfOk, IfErr, refl, MatchResult};
 ghost use Rattle.std.specs.Result.{OkIff};
@@ -32,8 +32,8 @@ use polars_arrays_flat::array::Array;
 use polars_arrays_flat::mask::Mask;
 use std::alloc::Global;
 
-/// An array of keys, with an optional validity, and the entries they name. A row is null if its key
-/// is masked or its entry is null.
+/// An array of keys, with an optional validity, and of the entries that the keys are indices of. A
+/// row is the entry of its key. It is null if its key is masked or its entry is null.
 #[cycle(arrays)]
 #[derive(Drop)]
 pub struct DictionaryArray {
@@ -42,9 +42,9 @@ pub struct DictionaryArray {
 }
 
 impl DictionaryArray {
-    /// Creates an array of the entries that the keys name. A row is null if its key or its entry
-    /// is. The error is `Key` with the first row whose key is present and negative, or not below
-    /// the number of entries. A masked key is arbitrary.
+    /// Creates an array of keys and of the entries that the keys are indices of. The error is `Key`
+    /// with the first row whose key is negative, or not below the number of entries, though the key
+    /// is present. The key of a masked row may be any number.
     #[tactic(auto, using(crate::proofs::Faults::faults))]
     pub fn try_new(keys: DictKeys, values: Box<AnyArray>) -> Result<DictionaryArray, ArrayError>
         requires { IsGood values.value }
@@ -66,14 +66,14 @@ impl DictionaryArray {
         }
     }
 
-    /// Returns the keys: for each row the index of its entry.
+    /// Returns the keys. The key of a row is the index of its entry.
     pub fn keys(&self) -> &DictKeys
         ensures { result.now ≡ dictionary_keys self.now }
     {
         &self.keys
     }
 
-    /// Returns the entries, including those that no key names.
+    /// Returns the array of the entries, including those that no key names.
     pub fn values(&self) -> &AnyArray
         ensures values { result.now ≡ dictionary_values self.now }
         ensures smaller { size-AnyArray result.now < size-DictionaryArray self.now }
@@ -81,7 +81,7 @@ impl DictionaryArray {
         &self.values
     }
 
-    /// Returns the index of the entry that the key of a present row names.
+    /// Returns key `i` as the index of an entry. The key must be present.
     #[inline(always)]
     pub fn key_value(&self, i: usize) -> usize
         requires good { IsGood (Dictionary self.now) }
@@ -103,7 +103,8 @@ impl DictionaryArray {
         !has_entry(self, i)
     }
 
-    /// Keeps the `n` rows from row `at` on.
+    /// Slices the array in place: only the `n` rows from row `at` on remain. The entries don't
+    /// change.
     #[tactic(auto, using(crate::proofs::Cuts::kept_parts))]
     pub fn slice(&mut self, at: usize, n: usize)
         requires good { IsGood (Dictionary self.old) }

@@ -1,4 +1,4 @@
-//! Arrays of lists of one width.
+//! Arrays of lists of one fixed size.
 
 ghost use Rattle.std.specs.Prelude.{◌≡◌, ◌*◌, ◌<◌, ◌+◌, ◌≤◌, ℕ, IfOk, IfErr, refl, MatchResult};
 ghost use Rattle.std.specs.Result.{OkIff};
@@ -34,7 +34,7 @@ use std::alloc::Global;
 #[cycle(arrays)]
 #[derive(Drop)]
 pub struct FixedSizeListArray {
-    // items a list
+    // number of items of each list
     width: usize,
     // number of lists; the items alone do not determine it if `width` is 0
     len: usize,
@@ -43,9 +43,9 @@ pub struct FixedSizeListArray {
 }
 
 impl FixedSizeListArray {
-    /// Creates an array of `len` lists of `width` items each, one after the other in `values`. The
-    /// error is `Length`, if the validity does not have a bit for each list, or if `values` does
-    /// not have `width * len` rows.
+    /// Creates an array of `len` lists of `width` items each, which follow one another in `values`.
+    /// The error is `Length`: the validity does not have one bit per list, or `values` does not
+    /// have `width * len` rows.
     pub fn try_new(
         width: usize,
         len: usize,
@@ -87,7 +87,7 @@ impl FixedSizeListArray {
         self.width
     }
 
-    /// Returns the items of all lists.
+    /// Returns the array of the items of all lists.
     pub fn values(&self) -> &AnyArray
         ensures values { result.now ≡ fixed_values self.now }
         ensures smaller { size-AnyArray result.now < size-FixedSizeListArray self.now }
@@ -95,7 +95,7 @@ impl FixedSizeListArray {
         &self.values
     }
 
-    /// Keeps the `n` rows from row `at` on.
+    /// Slices the array in place: only the `n` rows from row `at` on remain.
     #[cycle(slices)]
     pub fn slice(&mut self, at: usize, n: usize)
         requires good { IsGood (FixedSizeList self.old) }

@@ -1,4 +1,5 @@
-//! Laws of the definitions, each the contract of a function without parameters.
+//! Laws of the definitions. Each law is the contract of a function that has no parameters and does
+//! nothing at run time.
 
 ghost use Rattle.std.specs.Prelude.{◌≡◌};
 ghost use Rattle.polars_arrays_flat.specs.StoredRows.{rows_under};
@@ -21,14 +22,13 @@ ghost use Rattle.polars_arrays_nested.specs.declared.fixed_size_list.FixedSizeLi
 ghost use Rattle.polars_arrays_nested.specs.declared.list.ListArray.{ListArray};
 ghost use Rattle.polars_arrays_nested.specs.declared.struct_array.StructArray.{StructArray};
 
-/// States that two adjacent windows have the leaf slots of both together.
+/// States that a window has as many leaf slots as two adjacent windows that it consists of.
 #[tactic(auto, using(crate::proofs::LeafSlots::leaf_slots))]
 pub fn law_leaves()
     ensures { LeavesAddUp }
 {}
 
-/// States that the rows of a nested array are its stored rows, with null in place of those whose
-/// mask bit is 0.
+/// States that each row of a nested array is the stored row, or null if its mask bit is 0.
 #[tactic(auto, using(crate::proofs::RowLists::stored_rows))]
 pub fn law_rows()
     ensures lists { (a : ListArray) → IsGood (List a) → rows (List a)

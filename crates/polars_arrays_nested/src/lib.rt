@@ -1,4 +1,5 @@
-//! Nested arrays: lists, lists of one width, structs and dictionaries. Also arrays of any kind.
+//! Nested arrays: lists, lists of one fixed size, structs and dictionaries. Also arrays of any
+//! kind.
 #![tactic(auto)]
 
 pub mod any_array;

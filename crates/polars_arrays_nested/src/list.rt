@@ -29,7 +29,8 @@ use polars_arrays_flat::mask::Mask;
 use polars_arrays_flat::validity::{clone_validity, has_bits, null_count, slice_validity};
 use std::alloc::Global;
 
-/// An array of lists of items between offsets, with an optional validity.
+/// An array of lists, with an optional validity. The items of all lists lie in one array. Offsets
+/// say where each list begins and ends.
 #[cycle(arrays)]
 #[derive(Drop)]
 pub struct ListArray {
@@ -39,15 +40,15 @@ pub struct ListArray {
 }
 
 impl ListArray {
-    /// Creates an array of the lists between neighbouring offsets: row `i` is the items from offset
-    /// `i` up to offset `i + 1`. The first offset need not be 0. The error is
-    /// - `Length`, if the validity does not have a bit for each row (rows are one fewer than
-    ///   offsets, or none),
-    /// - then `Offsets` with the first row whose offsets are not
-    ///   `0 <= offsets[i] <= offsets[i + 1] <= values.len()`; with row 0, if there is no offset, or
-    ///   if the only one is not in `0..=values.len()`.
+    /// Creates an array of lists: row `i` has the items from offset `i` up to offset `i + 1`, which
+    /// is excluded. The first offset need not be 0. The errors, in the order of the checks, are
+    /// - `Length`, if the validity does not have one bit per row (there is one row less than there
+    ///   are offsets, and no row without offsets),
+    /// - `Offsets` with the first row for which `0 <= offsets[i] <= offsets[i + 1] <= values.len()`
+    ///   does not hold; with row 0, if there are no offsets, or if the only one is not in
+    ///   `0..=values.len()`.
     ///
-    /// Offsets of null rows are checked too.
+    /// The offsets of null rows are checked too.
     #[tactic(auto, using(crate::proofs::Faults::faults))]
     pub fn try_new(
         offsets: ListOffsets,
@@ -81,14 +82,16 @@ impl ListArray {
         }
     }
 
-    /// Returns the offsets: list i has the items from offset i up to offset i + 1.
+    /// Returns the offsets. List `i` has the items from offset `i` up to offset `i + 1`, which is
+    /// excluded.
     pub fn offsets(&self) -> &ListOffsets
         ensures { result.now ≡ list_offsets self.now }
     {
         &self.offsets
     }
 
-    /// Returns the array of all items, also of those that lie in no list.
+    /// Returns the array of all items, including those of masked rows and those that belong to no
+    /// list.
     pub fn values(&self) -> &AnyArray
         ensures values { result.now ≡ list_values self.now }
         ensures smaller { size-AnyArray result.now < size-ListArray self.now }
@@ -96,7 +99,8 @@ impl ListArray {
         &self.values
     }
 
-    /// Keeps the `n` rows from row `at` on.
+    /// Slices the array in place: only the `n` rows from row `at` on remain. The array of items
+    /// does not change.
     #[tactic(auto, using(crate::proofs::Cuts::kept_parts))]
     pub fn slice(&mut self, at: usize, n: usize)
         requires good { IsGood (List self.old) }

@@ -1,4 +1,4 @@
-//! The offsets of lists.
+//! The offsets of an array of lists.
 
 ghost use Rattle.std.specs.Option.{MatchOption};
 ghost use Rattle.std.specs.Prelude.{◌≡◌, ◌+◌, ◌<◌, MatchResult, length};
@@ -16,7 +16,8 @@ use polars_arrays_bytes::offsets::{first_bad_row, keep_rows, row_count};
 use polars_arrays_numbers::offset::Offset;
 use std::alloc::Global;
 
-/// The offsets of lists among all items, one more than lists.
+/// The offsets of lists in the array of their items, of 32 or 64 bits. There is one offset more
+/// than there are lists.
 #[derive(Drop)]
 pub enum ListOffsets {
     Small(Buffer<i32>),
@@ -24,7 +25,8 @@ pub enum ListOffsets {
 }
 
 impl ListOffsets {
-    /// Returns the number of lists: one fewer than offsets, and none without an offset.
+    /// Returns the number of lists: one less than the number of offsets, or 0 if there are no
+    /// offsets.
     #[tactic(auto, using(crate::proofs::Places::places_of))]
     pub fn len(&self) -> usize
         ensures { result ≡ list_count self.now }
@@ -42,8 +44,8 @@ impl ListOffsets {
         matches!(self, ListOffsets::Large(_))
     }
 
-    /// Returns offset `i` as a place among the items. A negative offset, which no array has, gives
-    /// 0.
+    /// Returns offset `i` as an index of an item. Returns 0 for a negative offset, which no array
+    /// of lists has.
     #[tactic(auto, using(crate::proofs::Places::places_of))]
     pub fn offset(&self, i: usize) -> usize
         requires { i < length (list_places self.now) }
@@ -55,7 +57,9 @@ impl ListOffsets {
         }
     }
 
-    /// Returns the first list that is not good over `n` items, or list 0 if there is no offset.
+    /// Returns the first list that is bad for `n` items: `0 <= offsets[i] <= offsets[i + 1] <= n`
+    /// does not hold. Returns 0 also if there are no offsets, or if the only one is not in `0..=n`.
+    /// Returns `None` if all lists are good.
     pub fn first_bad_row(&self, n: usize) -> Option<usize>
         ensures { MatchOption result (AreGood n (list_places self.now))
             (IsFirstBad n (list_places self.now)) }
@@ -66,7 +70,8 @@ impl ListOffsets {
         }
     }
 
-    /// Keeps the offsets of the `n` lists from list `at` on. No offset is moved.
+    /// Slices the offsets in place: only those of the `n` lists from list `at` on remain, `n + 1`
+    /// offsets. No offset is moved.
     #[tactic(auto, using(crate::proofs::Places::places_of))]
     pub fn slice(&mut self, at: usize, n: usize)
         requires { at + n < length (list_places self.old) }
@@ -79,7 +84,7 @@ impl ListOffsets {
         }
     }
 
-    /// Clones the offsets. A shared buffer is not copied. The error is `Memory`.
+    /// Clones the offsets. An owned buffer is copied, a shared one is not. The error is `Memory`.
     pub fn clone_offsets(&self, alloc: Global) -> Result<ListOffsets, ComputeError>
         ensures { MatchResult result (λ copy. copy ≡ self.now) IsMemory }
     {
@@ -96,7 +101,7 @@ impl ListOffsets {
     }
 }
 
-// Returns offset `i` as a place, or 0 if it is negative.
+// Returns offset `i` as an index, or 0 if it is negative.
 #[tactic(auto, using(crate::proofs::Places::places_of))]
 fn place_of<O: Offset>(offsets: &[O], i: usize) -> usize
     requires { i < length offsets.now }

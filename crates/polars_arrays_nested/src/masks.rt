@@ -1,7 +1,7 @@
 //! Masks of arrays of any kind and of their windows.
 //!
-//! A row is null if a validity masks it, or if it is a dictionary's key to a null entry. No other
-//! code decides which rows are null.
+//! A row is null if its bit of the validity is 0, if it is a row of a `Null` array, or if it is a
+//! dictionary's key to a null entry. No other code decides which rows are null.
 
 ghost use Rattle.std.specs.Prelude.{◌≡◌, ◌+◌, ◌≤◌, ◌<◌, ℕ, false, IfSome, MatchResult, length};
 ghost use Rattle.std.specs.Option.{ForSome, option_copied};
@@ -29,8 +29,8 @@ use polars_arrays_flat::mask::Mask;
 use polars_arrays_flat::validity::is_present;
 use std::alloc::Global;
 
-// Returns whether an array has bits of presence: a validity, its own or that of its last entries,
-// or only nulls.
+// Returns whether the array may have nulls: it is a `Null` array, it has a validity, or it is a
+// dictionary whose entries may have nulls.
 #[tactic(auto, using(crate::proofs::Presence::entries))]
 fn keeps_bits(array: &AnyArray) -> bool
     requires { IsGood array.now }
@@ -45,7 +45,8 @@ fn keeps_bits(array: &AnyArray) -> bool
     }
 }
 
-// Returns whether row `i` is not null.
+// Returns whether row `i` is not null. If it is a dictionary's key, its entry must not be null
+// either.
 #[tactic(auto, using(crate::proofs::Presence::entries))]
 fn is_there(array: &AnyArray, i: usize) -> bool
     requires good { IsGood array.now }
@@ -61,7 +62,8 @@ fn is_there(array: &AnyArray, i: usize) -> bool
     }
 }
 
-// Returns whether key `i` of a dictionary is present and names a present entry.
+// Returns whether row `i` of a dictionary is not null: its key is present, and the entry is not
+// null.
 #[tactic(auto, using(crate::proofs::Presence::entries))]
 pub(crate) fn has_entry(array: &DictionaryArray, i: usize) -> bool
     requires good { IsGood (Dictionary array.now) }
@@ -73,8 +75,8 @@ pub(crate) fn has_entry(array: &DictionaryArray, i: usize) -> bool
     is_present(keys.validity(), i) && is_there(array.values(), array.key_value(i))
 }
 
-// Truth values for the `n` keys from key `at` on: whether the key is present and names a present
-// entry.
+// A list of `n` truth values for the keys from key `at` on: is the key present, and its entry too?
+// `entries` is the mask of the entries.
 #[derive(Drop)]
 struct NamedEntries<'m, 'a> {
     keys: &'m DictKeys,
@@ -106,8 +108,8 @@ impl TruthValues for NamedEntries<'_, '_> {
     }
 }
 
-// Computes the mask of the `n` keys from key `at` on, following each key through all dictionaries
-// to its last entry. The error is `Memory`.
+// Computes the mask of the `n` rows of a dictionary from row `at` on. Follows each key to its
+// entry, and, if the entry is a key again, on to the last entry. The error is `Memory`.
 #[tactic(auto, using(crate::proofs::Presence::windows))]
 fn followed_window(
     alloc: Global,
@@ -132,8 +134,8 @@ fn followed_window(
     Ok(bits.freeze())
 }
 
-// Computes the mask of the `n` keys from key `at` on. Reads the entries' validity directly, unless
-// the entries are nulls or keys themselves. The error is `Memory`.
+// Computes the mask of the `n` rows of a dictionary from row `at` on. Reads the validity of the
+// entries directly, unless the entries are a `Null` array or a dictionary. The error is `Memory`.
 #[tactic(auto, using(crate::proofs::Presence::windows, crate::proofs::Presence::entries))]
 fn named_window(
     alloc: Global,
@@ -169,7 +171,8 @@ fn named_window(
     }
 }
 
-// Returns the mask of the `n` rows from row `at` on. The error is `Memory`.
+// Returns the mask of the `n` rows of a dictionary from row `at` on. Borrows the validity of the
+// keys if the entries have no nulls, and computes the mask otherwise. The error is `Memory`.
 #[tactic(auto, using(crate::proofs::Presence::windows))]
 fn dictionary_window(
     alloc: Global,
@@ -190,7 +193,7 @@ fn dictionary_window(
     Ok(lent_window(array.keys().validity(), at, n))
 }
 
-// Returns the mask of a dictionary array. The error is `Memory`.
+// Returns the mask of all rows of a dictionary. The error is `Memory`.
 #[tactic(auto, using(crate::proofs::Presence::windows))]
 pub(crate) fn dictionary_mask(
     alloc: Global,
@@ -207,7 +210,8 @@ pub(crate) fn dictionary_mask(
     dictionary_window(alloc, array, 0, keys.len())
 }
 
-// Borrows the bits of the `n` rows from row `at` on.
+// Creates a mask of the `n` rows from row `at` on, which borrows the bits of the validity. Without
+// a validity, all rows are present.
 #[inline(always)]
 fn lent_window<'a>(validity: Option<&'a Bitmap>, at: usize, n: usize) -> Mask<'a>
     requires { IfSome (option_copied validity) (λ bits. at + n ≤ length bits) }
@@ -220,7 +224,9 @@ fn lent_window<'a>(validity: Option<&'a Bitmap>, at: usize, n: usize) -> Mask<'a
 }
 
 impl AnyArray {
-    /// Returns the mask, borrowed from the array or computed. The error is `Memory`.
+    /// Returns the mask of all rows. Borrows the bits from the array, or computes them. A `Null`
+    /// array has a mask without bits, since its stored rows are null already. The error is
+    /// `Memory`.
     #[tactic(auto, using(crate::proofs::Lengths::lengths))]
     pub fn missing_mask(&self, alloc: Global) -> Result<Mask<'_>, ComputeError>
         requires { IsGood self.now }
@@ -230,8 +236,8 @@ impl AnyArray {
         each_array!(self, array => array.missing_mask(alloc))
     }
 
-    /// Returns the mask of the `n` rows from row `at` on. At most `n` bits are computed, so the
-    /// cost does not depend on the array's length. The error is `Memory`.
+    /// Returns the mask of the `n` rows from row `at` on. Computes at most `n` bits, so the cost
+    /// does not depend on the length of the array. The error is `Memory`.
     #[tactic(auto, using(crate::proofs::Presence::windows))]
     #[inline(always)]
     pub fn window_mask(&self, alloc: Global, at: usize, n: usize) -> Result<Mask<'_>, ComputeError>
@@ -247,8 +253,8 @@ impl AnyArray {
         }
     }
 
-    /// Returns `false` only if no row is null. It may return `true` for an array without nulls: a
-    /// validity may have no bit unset.
+    /// Returns `false` only if no row is null. May return `true` for an array without nulls, since
+    /// all bits of a validity may be 1.
     #[tactic(auto, using(crate::proofs::Presence::rows_told))]
     pub fn may_have_nulls(&self) -> bool
         requires { IsGood self.now }
@@ -258,8 +264,8 @@ impl AnyArray {
         keeps_bits(self)
     }
 
-    /// Returns whether row `i` is null: a validity masks it, the array is one of nulls, or it names
-    /// a null entry.
+    /// Returns whether row `i` is null: its bit of the validity is 0, it is a row of a `Null`
+    /// array, or it is a dictionary's key to a null entry.
     #[tactic(auto, using(crate::proofs::Presence::rows_told))]
     pub fn is_null_row(&self, i: usize) -> bool
         requires good { IsGood self.now }

@@ -35,7 +35,7 @@ use polars_arrays_flat::mask::Mask;
 use polars_arrays_flat::validity::{clone_validity, has_bits, null_count, slice_validity};
 use std::alloc::Global;
 
-/// An array of rows with a value for each field, with an optional validity.
+/// An array of structs, with an optional validity. It has a child array (a column) for each field.
 #[cycle(arrays)]
 #[derive(Drop)]
 pub struct StructArray {
@@ -47,10 +47,12 @@ pub struct StructArray {
 }
 
 impl StructArray {
-    /// Creates an array of `len` structs, with an array of values for each field. The error is
-    /// - `Length`, if the validity does not have a bit for each row,
-    /// - then `Field` with the first place whose array does not have `len` rows or the type of the
-    ///   field there; if all pairs fit and one list is shorter, this is its length.
+    /// Creates an array of `len` structs from one column per field. The errors, in the order of the
+    /// checks, are
+    /// - `Length`, if the validity does not have one bit per row,
+    /// - `Field` with the index of the first column that does not have `len` rows or the type of
+    ///   its field. If the numbers of fields and columns differ, and the common ones fit, the index
+    ///   is the smaller of the two numbers.
     #[tactic(auto, using(crate::proofs::Structs::made))]
     pub fn try_new(
         fields: Vec<Field>,
@@ -88,7 +90,7 @@ impl StructArray {
         self.len
     }
 
-    /// Returns the names and types of the columns.
+    /// Returns the fields: the name and the type of each column.
     pub fn fields(&self) -> &[Field]
         ensures { result.now ≡ struct_fields self.now }
     {
@@ -114,7 +116,7 @@ impl StructArray {
         &self.values[i]
     }
 
-    /// Keeps the `n` rows from row `at` on.
+    /// Slices the array in place: only the `n` rows from row `at` on remain.
     #[cycle(slices)]
     pub fn slice(&mut self, at: usize, n: usize)
         requires good { IsGood (Struct self.old) }
@@ -146,7 +148,7 @@ impl StructArray {
     }
 }
 
-// Clones arrays. The error is `Memory`.
+// Clones a list of arrays. The error is `Memory`.
 #[cycle(clones)]
 fn clone_columns(alloc: Global, columns: &[AnyArray]) -> Result<Vec<AnyArray>, ComputeError>
     ensures { MatchResult result (λ copies. AreClones copies.items columns.now) IsMemory }
@@ -159,7 +161,8 @@ fn clone_columns(alloc: Global, columns: &[AnyArray]) -> Result<Vec<AnyArray>, C
     Ok(copies)
 }
 
-// Returns the first place at which the array does not fit the field.
+// Returns the first index at which the field and the column do not fit together, or only one of
+// them exists. Returns `None` if there is no such index.
 #[tactic(auto, using(crate::proofs::Structs::fits))]
 fn first_misfit(fields: &[Field], len: usize, values: &[AnyArray]) -> Option<usize>
     ensures { MatchOption result ((k : ℕ) → FitsAt fields.now len values.now k)
@@ -173,7 +176,8 @@ fn first_misfit(fields: &[Field], len: usize, values: &[AnyArray]) -> Option<usi
     None
 }
 
-// Returns whether the array at a place fits the field there.
+// Returns whether the column at index `at` has `len` rows and the type of the field at this index.
+// Returns `true` if neither exists, and `false` if only one does.
 #[tactic(auto, using(crate::proofs::Structs::fits))]
 fn fits_at(fields: &[Field], len: usize, values: &[AnyArray], at: usize) -> bool
     ensures { IsTrue result ↔ FitsAt fields.now len values.now at }

@@ -1,4 +1,4 @@
-//! Equality of the types of arrays.
+//! Equality of the types of arrays of any kind.
 
 ghost use Rattle.std.specs.Prelude.{◌≡◌, ◌↔◌, IsTrue};
 ghost use Rattle.polars_arrays_flat.specs.DataType.{kind_of};
@@ -13,8 +13,8 @@ use crate::list::ListArray;
 use crate::struct_array::StructArray;
 use polars_arrays_flat::data_type::{ArrowDataType, is_struct_of, same_fields, same_keys};
 
-// A match on an array. For kinds without parameters, it returns whether the other array is of the
-// same kind.
+// Matches on an array. For an array whose type has no parameters, returns whether `$other` has the
+// same type. The other kinds have match arms of their own.
 macro_rules! same_type_as {
     ($other:expr, $any:expr, $($kind:ident)+, $($rest:tt)*) => {
         match $any {
@@ -25,7 +25,7 @@ macro_rules! same_type_as {
 }
 
 impl AnyArray {
-    /// Returns whether the array is of a type. Does not allocate.
+    /// Returns whether the array has the type `dtype`. Does not allocate.
     pub fn has_type(&self, dtype: &ArrowDataType) -> bool
         ensures { IsTrue result ↔ (type_of self.now ≡ kind_of dtype.now) }
     {
@@ -66,7 +66,7 @@ impl AnyArray {
         }
     }
 
-    /// Returns whether two arrays are of one type. Does not allocate.
+    /// Returns whether two arrays have the same type. Does not allocate.
     #[cycle(same_type)]
     pub fn same_type(&self, other: &AnyArray) -> bool
         ensures { IsTrue result ↔ (type_of self.now ≡ type_of other.now) }
@@ -88,7 +88,7 @@ impl AnyArray {
 }
 
 impl ListArray {
-    // Returns whether another array is of this one's type.
+    // Returns whether `other` has the same type as this array.
     #[cycle(same_type)]
     fn is_type_of(&self, other: &AnyArray) -> bool
         ensures { IsTrue result ↔ (type_of (List self.now) ≡ type_of other.now) }
@@ -104,7 +104,7 @@ impl ListArray {
 }
 
 impl FixedSizeListArray {
-    // Returns whether another array is of this one's type.
+    // Returns whether `other` has the same type as this array.
     #[cycle(same_type)]
     fn is_type_of(&self, other: &AnyArray) -> bool
         ensures { IsTrue result ↔ (type_of (FixedSizeList self.now) ≡ type_of other.now) }
@@ -119,7 +119,7 @@ impl FixedSizeListArray {
 }
 
 impl StructArray {
-    // Returns whether another array is of this one's type.
+    // Returns whether `other` has the same type as this array.
     fn is_type_of(&self, other: &AnyArray) -> bool
         ensures { IsTrue result ↔ (type_of (Struct self.now) ≡ type_of other.now) }
     {
@@ -131,7 +131,7 @@ impl StructArray {
 }
 
 impl DictionaryArray {
-    // Returns whether another array is of this one's type.
+    // Returns whether `other` has the same type as this array.
     #[cycle(same_type)]
     fn is_type_of(&self, other: &AnyArray) -> bool
         ensures { IsTrue result ↔ (type_of (Dictionary self.now) ≡ type_of other.now) }

@@ -1,4 +1,4 @@
-//! Arrays of byte strings, each described by a view.
+//! Arrays of byte strings that have a view for each row.
 
 ghost use Rattle.std.specs.Prelude.{◌≡◌, ◌<◌, ◌≤◌, ◌+◌, [], length, slice_index_or, IfOk, IfErr};
 ghost use Rattle.std.specs.Prelude.{MatchOption, IsOk, MatchResult, ⊤, refl};
@@ -27,8 +27,8 @@ use polars_arrays_flat::validity::{clone_validity, has_bits, null_count, slice_v
 use std::alloc::Global;
 use std::marker::Model;
 
-/// An array of byte strings, with an optional validity. Strings of at most 12 bytes are stored in
-/// their views, longer ones in buffers.
+/// An array of byte strings, with an optional validity. Each row has a view, which holds a string
+/// of at most 12 bytes, or says in which buffer a longer string lies.
 #[derive(Drop)]
 pub struct BinaryViewArray {
     views: Buffer<View>,
@@ -54,10 +54,13 @@ impl Model for BinaryViewArray {
 }
 
 impl BinaryViewArray {
-    /// Creates an array of a view for each row, the buffers of long rows, and a validity. The error
-    /// is `Length`, if the validity does not have a bit for each view; otherwise `View` with the
-    /// first row, null or not, whose view is bad: it points outside of its buffer, its prefix is
-    /// not that of the bytes, or a row of at most 12 bytes is not filled up with zeros.
+    /// Creates an array of one view per row, the buffers of the rows of more than 12 bytes, and a
+    /// validity. The errors, in the order of the checks, are
+    /// - `Length`, if the validity does not have one bit per view,
+    /// - `View` with the first row whose view is bad: the row lies outside its buffer, or does not
+    ///   begin with the view's prefix, or has at most 12 bytes and is not padded with zeros.
+    ///
+    /// The views of null rows are checked too.
     pub fn try_new(
         views: Buffer<View>,
         buffers: Vec<Buffer<u8>>,
@@ -105,14 +108,14 @@ impl BinaryViewArray {
         self.views.as_slice()
     }
 
-    /// Returns the buffers of the rows of more than 12 bytes.
+    /// Returns the buffers that hold the rows of more than 12 bytes.
     pub fn buffers(&self) -> &[Buffer<u8>]
         ensures { contents result.now ≡ self.now.buffers }
     {
         &self.buffers
     }
 
-    /// Returns the view of row `i`, masked or not.
+    /// Returns the view of row `i`, also if the row is masked.
     #[inline]
     pub fn view(&self, i: usize) -> &View
         requires { i < length self.now.views }
@@ -124,7 +127,7 @@ impl BinaryViewArray {
         &self.views()[i]
     }
 
-    /// Returns the bytes of row `i`, masked or not.
+    /// Returns the bytes of row `i`, also if the row is masked.
     #[inline]
     pub fn value(&self, i: usize) -> &[u8]
         requires { i < length self.now.views }
@@ -138,7 +141,8 @@ impl BinaryViewArray {
         }
     }
 
-    /// Keeps the `n` rows from row `at` on. No byte is moved.
+    /// Slices the array in place: only the `n` rows from row `at` on remain. The buffers don't
+    /// change.
     pub fn slice(&mut self, at: usize, n: usize)
         requires { at + n ≤ length self.old.views }
         ensures stored { self.new
@@ -169,7 +173,7 @@ impl BinaryViewArray {
         })
     }
 
-    /// Returns the array's type. Does not allocate, so it succeeds always.
+    /// Returns the array's type. Always succeeds, since it does not allocate.
     pub fn dtype(&self, _alloc: Global) -> Result<ArrowDataType, ComputeError>
         ensures dtype { MatchResult result (λ dtype. kind_of dtype ≡ BinaryViewKind) IsMemory }
         ensures succeeds { IsOk result }
@@ -225,7 +229,7 @@ impl ByteRows for BinaryViewArray {
     ghost slots_law = { λ a. refl };
 }
 
-// Returns the first row whose view is not good over these buffers.
+// Returns the first row whose view is not good for these buffers, or `None` if all views are good.
 fn first_bad_view(views: &[View], buffers: &[Buffer<u8>]) -> Option<usize>
     ensures { MatchOption result (All (GoodView (contents buffers.now)) views.now)
         (IsFirstBadView (contents buffers.now) views.now) }

@@ -1,5 +1,5 @@
-//! Arrays of byte strings and texts with a view a row: sixteen bytes that hold the row or point to
-//! it. Also equality and order of their rows.
+//! Arrays of byte strings and of texts that have a view for each row: sixteen bytes that hold the
+//! row or say where it lies. Also compares rows for equality and order.
 #![tactic(auto)]
 
 pub mod binary_view;

@@ -1,4 +1,4 @@
-//! Equality and order of single rows, masked or not.
+//! Compares single rows for equality and order. Rows under nulls are compared too.
 
 ghost use Rattle.std.specs.Prelude.{◌≡◌, ◌<◌, ◌+◌, ℕ, List, [], IsTrue, if◌then◌else◌, length};
 ghost use Rattle.std.specs.Prelude.{slice_index_or, false};
@@ -14,8 +14,8 @@ use crate::view::View;
 use polars_arrays_flat::byte_order::bytes_less;
 use polars_arrays_numbers::steps::Steps;
 
-/// Returns whether row `i` of one array and row `j` of another have equal bytes. A comparison that
-/// reads buffers is counted.
+/// Returns whether row `i` of `left` and row `j` of `right` have equal bytes. Adds 1 to `steps` if
+/// it reads the buffers: if both rows have the same length, above 12 bytes, and the same prefix.
 #[inline]
 pub fn rows_equal(
     left: &BinaryViewArray,
@@ -35,7 +35,7 @@ pub fn rows_equal(
 {
     let v = left.view(i);
     let w = right.view(j);
-    // evaluates both tests, so that no branch depends on the bytes of short rows
+    // `&` evaluates both comparisons, so that no branch depends on the bytes of short rows
     if v.len() <= 12 {
         return v.same_head(w) & v.same_tail(w);
     }
@@ -46,8 +46,8 @@ pub fn rows_equal(
     left.value(i) == right.value(j)
 }
 
-/// Returns whether two views have the same sixteen bytes. If the row of `v` lies in its view (at
-/// most 12 bytes), that is whether the rows are equal; otherwise it is only a guess.
+/// Returns whether two views have the same sixteen bytes. If the row of `v` has at most 12 bytes,
+/// the result says whether the rows are equal. For a longer row the result is only a guess.
 #[inline(always)]
 pub fn guess_equal(v: &View, w: &View) -> bool
     ensures { (buffers others : List (List ℕ)) → GoodView buffers v.now → GoodView others w.now
@@ -57,8 +57,8 @@ pub fn guess_equal(v: &View, w: &View) -> bool
     v.same_bytes(w)
 }
 
-/// Returns whether a row lies in its view, with at most 12 bytes. Comparing it for equality then
-/// reads no buffer.
+/// Returns whether the view holds its whole row, which then has at most 12 bytes. Comparing such a
+/// row for equality reads no buffer.
 #[inline(always)]
 pub fn lies_in_view(v: &View) -> bool
     ensures short { result ≡ is_short v.now }
@@ -69,8 +69,9 @@ pub fn lies_in_view(v: &View) -> bool
     v.is_short()
 }
 
-/// Returns whether row `i` of one array is less than row `j` of another, byte by byte. A comparison
-/// that reads buffers is counted.
+/// Returns whether row `i` of `left` is less than row `j` of `right`, byte by byte. Adds 1 to
+/// `steps` if the views don't decide: if a row has more than 12 bytes, and both have the same
+/// prefix.
 #[inline]
 pub fn row_less(
     left: &BinaryViewArray,
@@ -101,7 +102,7 @@ pub fn row_less(
     bytes_less(left.value(i), right.value(j))
 }
 
-/// Returns whether row `i` has the bytes of `scalar`.
+/// Returns whether row `i` has exactly the bytes of `scalar`.
 #[inline]
 pub fn row_equals_bytes(left: &BinaryViewArray, i: usize, scalar: &ScalarRow) -> bool
     requires { i < length left.now.views }
@@ -110,7 +111,7 @@ pub fn row_equals_bytes(left: &BinaryViewArray, i: usize, scalar: &ScalarRow) ->
     let v = left.view(i);
     let w = scalar.view();
     let size = scalar.len();
-    // one case for all rows
+    // depends on `scalar` alone, and so goes the same way for all rows
     if size <= 12 {
         return w.same_head(v) & w.same_tail(v);
     }

@@ -1,4 +1,4 @@
-//! Byte strings that rows are compared with.
+//! A byte string that is compared with many rows.
 
 ghost use Rattle.std.specs.Prelude.{◌≡◌, length};
 ghost use Rattle.polars_arrays_views.specs.Views.{HoldsScalar};
@@ -6,8 +6,8 @@ ghost use Rattle.polars_arrays_views.specs.Views.{HoldsScalar};
 use crate::view::View;
 use std::marker::Model;
 
-/// A byte string that rows are compared with, and a view that has its prefix, or all of it if it
-/// has at most 12 bytes.
+/// A byte string that is compared with many rows, and a view for it. The view holds the whole
+/// string if it has at most 12 bytes, and otherwise only its prefix.
 #[derive(Drop)]
 pub struct ScalarRow<'a> {
     bytes: &'a [u8],
@@ -50,7 +50,8 @@ impl<'a> ScalarRow<'a> {
         self.bytes
     }
 
-    /// Returns the view that has the prefix or all bytes.
+    /// Returns the view. It holds the whole string if it has at most 12 bytes, and otherwise only
+    /// its prefix.
     #[inline(always)]
     pub fn view(&self) -> &View
         ensures { HoldsScalar result.now self.now }
@@ -59,7 +60,8 @@ impl<'a> ScalarRow<'a> {
     }
 }
 
-// Returns a view of a byte string; of a long one it has only the prefix.
+// Returns the view of a byte string of at most 12 bytes. For a longer one, returns a view that has
+// its prefix and is 0 elsewhere.
 fn scalar_view(bytes: &[u8]) -> View
     ensures { HoldsScalar result bytes.now }
 {

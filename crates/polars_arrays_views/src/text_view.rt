@@ -1,4 +1,4 @@
-//! Arrays of texts, each described by a view.
+//! Arrays of texts that have a view for each row.
 
 ghost use Rattle.std.specs.Prelude.{◌≡◌, ◌↔◌, ◌<◌, ◌≤◌, ◌+◌, [], length, slice_index_or, IfOk};
 ghost use Rattle.std.specs.Prelude.{IfErr, IsTrue, MatchOption, IsOk, MatchResult, ⊤, refl};
@@ -30,7 +30,8 @@ use std::alloc::Global;
 use std::marker::Model;
 use std::str::{from_utf8, from_utf8_unchecked};
 
-/// An array of texts in UTF-8, with an optional validity, stored as an array of their bytes.
+/// An array of texts in UTF-8, with an optional validity. It is stored as an array of the texts'
+/// bytes.
 #[derive(Drop)]
 pub struct Utf8ViewArray {
     binary: BinaryViewArray,
@@ -48,10 +49,10 @@ impl Model for Utf8ViewArray {
 }
 
 impl Utf8ViewArray {
-    /// Creates an array of a view for each row, the buffers of long rows, and a validity. The error
-    /// is `Length`, if the validity does not have a bit for each view; otherwise `View` with the
-    /// first row whose view is bad, as in `BinaryViewArray::try_new`; otherwise `NotUtf8` with the
-    /// first row whose bytes alone are not UTF-8. Masked rows are checked too.
+    /// Creates an array of one view per row, the buffers of the rows of more than 12 bytes, and a
+    /// validity. The errors are those of `BinaryViewArray::try_new`, and after these checks
+    /// `NotUtf8` with the first row whose bytes, taken alone, are not UTF-8. Null rows are checked
+    /// too.
     pub fn try_new(
         views: Buffer<View>,
         buffers: Vec<Buffer<u8>>,
@@ -103,7 +104,7 @@ impl Utf8ViewArray {
         self.binary.views()
     }
 
-    /// Returns the text of row `i`, masked or not.
+    /// Returns the text of row `i`, also if the row is masked.
     #[inline]
     pub fn value(&self, i: usize) -> &str
         requires { i < length self.now.views }
@@ -113,7 +114,8 @@ impl Utf8ViewArray {
         unsafe { from_utf8_unchecked(bytes) }
     }
 
-    /// Keeps the `n` rows from row `at` on. No byte is moved.
+    /// Slices the array in place: only the `n` rows from row `at` on remain. The buffers don't
+    /// change.
     pub fn slice(&mut self, at: usize, n: usize)
         requires { at + n ≤ length self.old.views }
         ensures stored { self.new
@@ -137,7 +139,7 @@ impl Utf8ViewArray {
         Ok(Utf8ViewArray { binary })
     }
 
-    /// Returns the array's type. Does not allocate, so it succeeds always.
+    /// Returns the array's type. Always succeeds, since it does not allocate.
     pub fn dtype(&self, _alloc: Global) -> Result<ArrowDataType, ComputeError>
         ensures dtype { MatchResult result (λ dtype. kind_of dtype ≡ Utf8ViewKind) IsMemory }
         ensures succeeds { IsOk result }
@@ -193,7 +195,8 @@ impl ByteRows for Utf8ViewArray {
     ghost slots_law = { λ a. refl };
 }
 
-// Returns the first row whose bytes alone are not UTF-8.
+// Returns the first row whose bytes, taken alone, are not UTF-8. Returns `None` if all rows are
+// UTF-8.
 fn first_not_text(array: &BinaryViewArray) -> Option<usize>
     ensures { MatchOption result (AllText array.now) (IsFirstNotText (view_strings array.now)) }
 {
@@ -206,8 +209,9 @@ fn first_not_text(array: &BinaryViewArray) -> Option<usize>
     None
 }
 
-// Returns whether each buffer as a whole is UTF-8. Buffers of more than 64 bytes a row are not
-// read, since most of their bytes may belong to other arrays.
+// Returns whether each buffer as a whole is UTF-8. Returns `false` if the buffers together have
+// more than 64 bytes per row: most of their bytes may then belong to other arrays, and are not
+// worth reading.
 fn hold_texts(buffers: &[Buffer<u8>], rows: usize) -> bool
     ensures { IsTrue result → All IsUtf8 (contents buffers.now) }
 {
@@ -222,7 +226,8 @@ fn hold_texts(buffers: &[Buffer<u8>], rows: usize) -> bool
     true
 }
 
-// Returns whether the bytes of row `row` are UTF-8. If `whole`, each buffer is.
+// Returns whether the bytes of row `row` are UTF-8. `whole` says that each buffer as a whole is
+// UTF-8.
 fn is_text_row(array: &BinaryViewArray, row: usize, whole: bool) -> bool
     requires row { row < length array.now.views }
     requires whole { IsTrue whole → All IsUtf8 array.now.buffers }
@@ -234,8 +239,8 @@ fn is_text_row(array: &BinaryViewArray, row: usize, whole: bool) -> bool
     is_text(array.value(row))
 }
 
-// Returns whether a row is seen to be UTF-8 without reading all of it: in a view of ASCII, or
-// between characters of a buffer that is UTF-8.
+// Returns whether a quick check shows that the row is UTF-8: its view is ASCII, or it lies between
+// characters of a buffer that is UTF-8. `whole` says that each buffer as a whole is UTF-8.
 fn shows_text(view: &View, buffers: &[Buffer<u8>], whole: bool) -> bool
     requires good { GoodView (contents buffers.now) view.now }
     requires whole { IsTrue whole → All IsUtf8 (contents buffers.now) }
@@ -247,7 +252,7 @@ fn shows_text(view: &View, buffers: &[Buffer<u8>], whole: bool) -> bool
     whole && lies_between_characters(view, buffers)
 }
 
-// Returns whether a row begins and ends between two characters of its buffer.
+// Returns whether the row begins and ends between characters of its buffer.
 fn lies_between_characters(view: &View, buffers: &[Buffer<u8>]) -> bool
     requires { InBuffer (contents buffers.now) view.now }
     ensures { IsTrue result → LiesBetween (contents buffers.now) view.now }
@@ -257,7 +262,8 @@ fn lies_between_characters(view: &View, buffers: &[Buffer<u8>]) -> bool
     begins_character(bytes, at) && begins_character(bytes, at + view.len())
 }
 
-// Returns whether a byte does not continue a character, or the bytes end before it.
+// Returns whether index `at` lies between characters: the byte at `at` is not a continuation byte
+// of UTF-8, or there is no such byte.
 fn begins_character(bytes: &[u8], at: usize) -> bool
     requires { at ≤ length bytes.now }
     ensures { IsTrue result → IsCharBoundary bytes.now at }
@@ -269,7 +275,7 @@ fn begins_character(bytes: &[u8], at: usize) -> bool
     byte < 128 || byte >= 192
 }
 
-// Returns whether bytes are UTF-8.
+// Returns whether `bytes` is UTF-8.
 fn is_text(bytes: &[u8]) -> bool
     ensures { IsTrue result ↔ IsUtf8 bytes.now }
 {

@@ -1,4 +1,4 @@
-//! Views: sixteen bytes that hold a row's length and bytes, or say where its bytes lie.
+//! Views: sixteen bytes that hold the length and the bytes of a row, or say where its bytes lie.
 
 ghost use Rattle.std.specs.Prelude.{◌≡◌, ◌≤◌, ◌<◌, ◌+◌, ◌↔◌, ℕ, List, IsTrue, length, take, drop};
 ghost use Rattle.std.specs.Int.{w32, w64, w128, from_le_bytes, from_be_bytes};
@@ -14,9 +14,11 @@ use polars_arrays_flat::byte_order::pair_less;
 use std::marker::Model;
 use std::simd::prelude::*;
 
-/// A view: any sixteen bytes. The first four are the row's length. Then come up to 12 bytes of the
-/// row, padded with zeros; for a longer row they are its first four bytes, the index of its buffer,
-/// and its offset in that buffer. Numbers are little-endian and unsigned, of four bytes each.
+/// A view: sixteen bytes that describe a row. Bytes 0 to 3 are the row's length. A row of at most
+/// 12 bytes follows in bytes 4 to 15, padded with zeros. For a longer row, bytes 4 to 7 are its
+/// prefix (its first four bytes), bytes 8 to 11 the index of its buffer, and bytes 12 to 15 its
+/// offset in that buffer. Numbers are little-endian and unsigned. Any sixteen bytes make a view;
+/// `is_good` checks it.
 #[derive(Clone, Copy, PartialEq, Eq, Debug)]
 pub struct View {
     bytes: [u8; 16],
@@ -33,7 +35,7 @@ impl Model for View {
 }
 
 impl View {
-    /// Creates a view of these bytes.
+    /// Creates a view of any sixteen bytes.
     pub fn new(bytes: [u8; 16]) -> View
         ensures { result ≡ bytes }
     {
@@ -60,7 +62,7 @@ impl View {
         u128::from_le_bytes(self.bytes)
     }
 
-    /// Returns the number of bytes of the row.
+    /// Returns the length of the row in bytes.
     #[inline]
     #[tactic(auto, unfolding(crate::specs::Views::view_len))]
     pub fn len(&self) -> usize
@@ -72,7 +74,7 @@ impl View {
         u32::from_le_bytes([b[0], b[1], b[2], b[3]]) as usize
     }
 
-    /// Returns whether the row lies in the view, with at most 12 bytes.
+    /// Returns whether the view holds the whole row, which is so if the row has at most 12 bytes.
     #[inline(always)]
     pub fn is_short(&self) -> bool
         ensures { result ≡ is_short self.now }
@@ -80,7 +82,7 @@ impl View {
         self.len() <= 12
     }
 
-    /// Returns whether all sixteen bytes are ASCII. Then a row of at most 12 bytes is ASCII too.
+    /// Returns whether all sixteen bytes are ASCII. If so, a row of at most 12 bytes is ASCII too.
     #[inline]
     pub fn is_ascii(&self) -> bool
         ensures { IsTrue result → IsAscii self.now }
@@ -88,7 +90,7 @@ impl View {
         self.bytes.is_ascii()
     }
 
-    /// Returns the index of the buffer that holds a row of more than 12 bytes.
+    /// Returns the index of the row's buffer. It has no meaning for a row of at most 12 bytes.
     #[inline]
     #[tactic(auto, unfolding(crate::specs::Views::view_buffer))]
     pub fn buffer(&self) -> usize
@@ -98,7 +100,8 @@ impl View {
         u32::from_le_bytes([b[8], b[9], b[10], b[11]]) as usize
     }
 
-    /// Returns the byte of the buffer where a row of more than 12 bytes begins.
+    /// Returns the offset of the row in its buffer, in bytes. It has no meaning for a row of at
+    /// most 12 bytes.
     #[inline]
     #[tactic(auto, unfolding(crate::specs::Views::view_offset))]
     pub fn offset(&self) -> usize
@@ -109,7 +112,7 @@ impl View {
         u32::from_le_bytes([b[12], b[13], b[14], b[15]]) as usize
     }
 
-    /// Returns the bytes of a row of at most 12 bytes.
+    /// Returns the bytes of the row, which must be at most 12.
     #[inline]
     pub fn inlined(&self) -> &[u8]
         requires { view_len self.now ≤ 12 }
@@ -119,7 +122,7 @@ impl View {
         &self.bytes[4..4 + len]
     }
 
-    /// Returns the bytes of a row that lies in one of these buffers.
+    /// Returns the bytes of the row, which must lie in one of these buffers.
     #[inline]
     pub fn in_buffer<'a>(&self, buffers: &'a [Buffer<u8>]) -> &'a [u8]
         requires { InBuffer (contents buffers.now) self.now }
@@ -133,8 +136,9 @@ impl View {
         &buffer.as_slice()[at..at + self.len()]
     }
 
-    /// Returns whether the view is good: a row of at most 12 bytes is filled up with zeros, and a
-    /// longer one lies in one of these buffers and begins with the prefix.
+    /// Returns whether the view is good. That of a row of at most 12 bytes is good if it is padded
+    /// with zeros. That of a longer row is good if the row lies in one of `buffers` and begins with
+    /// the view's prefix.
     pub fn is_good(&self, buffers: &[Buffer<u8>]) -> bool
         ensures { IsTrue result ↔ GoodView (contents buffers.now) self.now }
     {
@@ -146,8 +150,8 @@ impl View {
         }
     }
 
-    // Returns whether a row of more than 12 bytes lies in one of these buffers and begins with the
-    // prefix.
+    // Returns whether the row lies in one of `buffers` and begins with the view's prefix. The row
+    // must have more than 12 bytes.
     fn is_in_buffer(&self, buffers: &[Buffer<u8>]) -> bool
         requires { 12 < view_len self.now }
         ensures { IsTrue result ↔ InBuffer (contents buffers.now) self.now }
@@ -162,7 +166,7 @@ impl View {
         }
     }
 
-    /// Returns whether the lengths and the prefixes are equal.
+    /// Returns whether the first eight bytes of both views are equal: the lengths and the prefixes.
     #[inline]
     pub fn same_head(&self, other: &View) -> bool
         ensures { IsTrue result ↔ (take 8 self.now ≡ take 8 other.now) }
@@ -170,7 +174,7 @@ impl View {
         self.head() == other.head()
     }
 
-    /// Returns whether the last eight bytes are equal.
+    /// Returns whether the last eight bytes of both views are equal.
     #[inline]
     pub fn same_tail(&self, other: &View) -> bool
         ensures { IsTrue result ↔ (drop 8 self.now ≡ drop 8 other.now) }
@@ -187,7 +191,7 @@ impl View {
         differ.to_bitmask() == 0
     }
 
-    /// Returns the prefix as a big-endian number.
+    /// Returns bytes 4 to 7, the prefix of the row, as a big-endian number.
     #[inline]
     pub fn prefix(&self) -> u32
         ensures { result ≡ from_be_bytes w32 (view_prefix self.now) }
@@ -196,8 +200,8 @@ impl View {
         u32::from_be_bytes([b[4], b[5], b[6], b[7]])
     }
 
-    /// Returns whether the row is less than another one. Both must have at most 12 bytes, padded
-    /// with zeros.
+    /// Returns whether the row is less than that of `other`, byte by byte. Both rows must have at
+    /// most 12 bytes, padded with zeros.
     #[inline(always)]
     pub fn inlined_less(&self, other: &View) -> bool
         requires short { view_len self.now ≤ 12 }
