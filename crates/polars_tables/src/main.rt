@@ -1,5 +1,5 @@
-//! Reads one command a line from standard input (`eq_missing i32 1 null | 1 null`), and prints one
-//! result a line.
+//! Reads one command per line from standard input, such as `eq_missing i32 1 null | 1 null`. Prints
+//! one result per line, such as `true true`.
 #![tactic(auto)]
 
 use polars_tables_lines::arguments::asked;
@@ -28,7 +28,7 @@ A command is an operation, a type, and rows, with a bar between two lists of row
 docs/LINES.md has all operations. A line that can't be answered prints
 `line N: refused: WORD`, and the status is then 1.";
 
-/// Returns the words after the program's name.
+/// Returns the command-line arguments after the program's name.
 fn read_arguments<R: Env + AllocGlobal>(rt: &R) -> io::Result<Vec<String>> {
     let mut words = Vec::new(rt.alloc());
     for word in env::args(rt)?.skip(1) {
@@ -37,7 +37,8 @@ fn read_arguments<R: Env + AllocGlobal>(rt: &R) -> io::Result<Vec<String>> {
     Ok(words)
 }
 
-/// Returns the exit status of a run, and prints its fault to standard error.
+/// Returns the exit status for the outcome of a run. If the run stopped, first prints why to
+/// standard error.
 fn end(rt: &impl Eprint, outcome: Result<Report, RunError>) -> u8 {
     if let Err(fault) = &outcome {
         let _ = eprintln!(rt; "{}", fault_text(fault));
@@ -45,19 +46,19 @@ fn end(rt: &impl Eprint, outcome: Result<Report, RunError>) -> u8 {
     exit_status(&outcome)
 }
 
-/// The report of a run without lines.
+/// The report of a command that reads no lines.
 const NO_LINES: Report = Report {
     lines: 0,
     refused: 0,
 };
 
-/// Prints the demo. Counts as a run without lines.
+/// Prints the demo. Returns the report of a run without lines.
 fn print_demo(rt: &(impl Print + AllocGlobal)) -> Result<Report, RunError> {
     demo(rt.alloc(), &mut io::writer(rt))?;
     Ok(NO_LINES)
 }
 
-/// Prints a text. Counts as a run without lines.
+/// Prints a text and a line feed. Returns the report of a run without lines.
 fn print_text(rt: &impl Print, text: &str) -> Result<Report, RunError> {
     match println!(rt; "{text}") {
         Ok(()) => Ok(NO_LINES),
@@ -65,7 +66,7 @@ fn print_text(rt: &impl Print, text: &str) -> Result<Report, RunError> {
     }
 }
 
-/// Prints the name of the program and its version.
+/// Prints the name and the version of the program. Returns the report of a run without lines.
 fn print_version(rt: &impl Print) -> Result<Report, RunError> {
     match println!(rt; "polars_tables {VERSION}") {
         Ok(()) => Ok(NO_LINES),

@@ -1,4 +1,4 @@
-//! The command that the arguments name.
+//! Parses the command-line arguments.
 
 ghost use Rattle.std.specs.Prelude.{◌≡◌, map, MatchResult, Ok};
 ghost use Rattle.std.specs.IoError.{error_kind};
@@ -10,9 +10,9 @@ use crate::running::RunError;
 use std::io;
 use std::io::ErrorKind;
 
-/// Returns the command of the words after the program's name: without words it is to read the lines
-/// of standard input; one of the words `demo`, `--help` and `--version` alone names its command;
-/// any other words print the usage line.
+/// Returns the command that the arguments after the program's name ask for. Without arguments, it
+/// is `Lines`. A single argument `demo`, `--help` or `--version` asks for that command. Any other
+/// arguments give `Usage`.
 pub fn command(arguments: &[String]) -> Command
     ensures { result ≡ command_of (map string_bytes arguments.now) }
 {
@@ -25,8 +25,9 @@ pub fn command(arguments: &[String]) -> Command
     }
 }
 
-/// Returns the command of the words after the program's name, as they were read. If one of them is
-/// not UTF-8, it is to print the usage line. The only error is a failed allocation.
+/// Returns the command that the arguments after the program's name ask for. `arguments` is the
+/// result of reading them. If an argument is not UTF-8, the command is `Usage`. The error is
+/// `Memory` if an allocation failed while they were read.
 pub fn asked(arguments: &io::Result<Vec<String>>) -> Result<Command, RunError>
     ensures { MatchResult arguments.now
         (λ words. result ≡ Ok (command_of (map string_bytes words.items)))

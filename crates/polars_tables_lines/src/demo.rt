@@ -1,4 +1,4 @@
-//! The demo.
+//! The demo of the program: comparisons of small nested arrays.
 
 ghost use Rattle.std.specs.Prelude.{◌≡◌, ◌⊎◌, IfErr};
 ghost use Rattle.std.specs.Io.KnownBytes.{Keeps};
@@ -13,9 +13,9 @@ use crate::running::{RunError, write_text};
 use std::alloc::Global;
 use std::io::Write;
 
-/// Compares eight pairs of small nested arrays, and writes a line for each: which rows are the
-/// same, null equal to null alone, and how many leaves were compared. If an allocation fails,
-/// nothing is written.
+/// Compares eight pairs of small nested arrays, and writes a line for each pair: which rows are
+/// equal, and how many leaves were compared. Null is equal only to null. If an allocation fails,
+/// the error is `Memory` and nothing is written.
 pub fn demo<W: Write>(alloc: Global, writer: &mut W) -> Result<(), RunError>
     // Writes nothing on an error, except if a write failed.
     ensures unwritten { IfErr result

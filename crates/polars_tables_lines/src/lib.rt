@@ -1,4 +1,5 @@
-//! The line language: one command a line (`eq_missing i32 1 null | 1 null`), and one result a line.
+//! The language of the program `polars_tables`: one command per line, such as
+//! `eq_missing i32 1 null | 1 null`, and one result per line, such as `true true`.
 #![tactic(auto)]
 
 pub mod arguments;

@@ -1,4 +1,4 @@
-//! A line of the language, and its result.
+//! Runs the command in a line, and returns its result as text.
 
 ghost use Rattle.std.specs.String.{string_bytes};
 ghost use Rattle.polars_tables_lines.specs.Line.{line_meaning, rows_meaning, typed_meaning};
@@ -23,7 +23,8 @@ use polars_tables_rows::row_type::RowType;
 use polars_tables_rows::words::{next_word, parse_lists};
 use std::alloc::Global;
 
-// Returns the result of an operation for a text of rows and bars, read as numbers of one type.
+// Runs an operation on numbers of the type `T`. The text has the lists of rows. The error is
+// `TypeName` if the operation does not accept numbers, or that of the lists or of the operation.
 fn answer_numbers<T: LineNumber>(
     alloc: Global,
     operation: Operation,
@@ -45,7 +46,8 @@ fn answer_numbers<T: LineNumber>(
     }
 }
 
-// Returns the result of an operation for a text of rows and bars, read as truth values.
+// Runs an operation on truth values. The text has the lists of rows. The error is `TypeName` if the
+// operation does not accept truth values, or that of the lists or of the operation.
 fn answer_booleans(alloc: Global, operation: Operation, text: &str) -> Result<String, LineError>
     ensures { Tells string_bytes (rows_meaning operation Boolean (words_of text.now)) result }
 {
@@ -63,7 +65,8 @@ fn answer_booleans(alloc: Global, operation: Operation, text: &str) -> Result<St
     }
 }
 
-// Returns the result of an operation for a text of rows and bars, read as rows of the type.
+// Runs an operation on rows of a type. The text has the lists of rows. The error is `TypeName` if
+// the operation does not accept the type, or that of the lists or of the operation.
 fn answer_rows(
     alloc: Global,
     operation: Operation,
@@ -85,7 +88,9 @@ fn answer_rows(
     }
 }
 
-// Returns the result of an operation for the text after its name: a type, and then rows and bars.
+// Runs an operation on the text after its name: the name of a type, and lists of rows. The error is
+// `TypeName` if there is no such type or the operation does not accept it, or that of the lists or
+// of the operation.
 fn answer_typed(alloc: Global, operation: Operation, text: &str) -> Result<String, LineError>
     ensures { Tells string_bytes (typed_meaning operation (words_of text.now)) result }
 {
@@ -98,8 +103,10 @@ fn answer_typed(alloc: Global, operation: Operation, text: &str) -> Result<Strin
     }
 }
 
-/// Returns the result of a line as text, without a line feed, or the line's first fault.
-/// `LineError::Memory` always means a failed allocation.
+/// Runs the command in a line, and returns its result as text, without a line feed. Returns the
+/// first fault of the line if it has one. The error is `Memory` only if an allocation failed.
+///
+/// For example, the line `add i8 127 null | 1 2` has the result `-128 null`.
 pub fn answer_line(alloc: Global, line: &str) -> Result<String, LineError>
     ensures { Tells string_bytes (line_meaning line.now) result }
 {

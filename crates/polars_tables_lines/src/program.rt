@@ -1,4 +1,4 @@
-//! Commands of the program, and its exit statuses.
+//! The commands of the program, and its exit statuses.
 
 ghost use Rattle.std.specs.Prelude.{◌≡◌};
 ghost use Rattle.polars_tables_lines.specs.Command.{exit_status_of, fault_text_of};
@@ -9,23 +9,23 @@ use crate::running::{Report, RunError};
 /// version.
 pub const VERSION: &str = "0.1.0";
 
-/// A command of the program.
+/// A command of the program, as the arguments ask for it.
 #[derive(Clone, Copy, Debug, PartialEq, Eq)]
 pub enum Command {
-    /// Print the results of the lines of standard input.
+    /// Run the commands in the lines of standard input, and print their results.
     Lines,
-    /// Print the demo.
+    /// Print the demo: comparisons of small nested arrays.
     Demo,
-    /// Print the help on standard output.
+    /// Print the help to standard output.
     Help,
-    /// Print the version.
+    /// Print the version of the program.
     Version,
-    /// Print the usage on standard error, since the arguments are wrong.
+    /// Print the usage line to standard error, since the arguments are wrong.
     Usage,
 }
 
-/// Returns the exit status of a run: 0 if each line had a result, and 1 if a line was refused or
-/// the run stopped.
+/// Returns the exit status of a run: 0 if no line was refused, and 1 if a line was refused or the
+/// run stopped before its end.
 pub fn exit_status(outcome: &Result<Report, RunError>) -> u8
     ensures { result ≡ exit_status_of outcome.now }
 {
@@ -35,7 +35,7 @@ pub fn exit_status(outcome: &Result<Report, RunError>) -> u8
     }
 }
 
-/// Returns the message for standard error of a run that stopped.
+/// Returns the message about a run that stopped, for standard error.
 pub fn fault_text(fault: &RunError) -> &'static str
     ensures { result.now ≡ fault_text_of fault.now }
 {

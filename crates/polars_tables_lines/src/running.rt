@@ -1,4 +1,4 @@
-//! The program's run: reads an input, and writes the results of its lines.
+//! Runs the commands in all lines of an input, and writes the results.
 
 ghost use Rattle.std.specs.Prelude.{◌≡◌, ◌⊎◌, ◌++◌, ◌∷◌, [], length, vec_len, ◌<◌, ◌==◌, ◌+◌, ◌^◌};
 ghost use Rattle.std.specs.Prelude.{IfOk, IfErr, IfSome, OnOk};
@@ -17,20 +17,22 @@ use std::alloc::{AllocError, AllocFailed, Global};
 use std::io::{ErrorKind, Read, Write};
 use thiserror::Error;
 
-/// The number of lines of an input, and the number of refused ones.
+/// The number of lines that were read, and how many of them were refused.
 #[derive(Clone, Copy, Debug, PartialEq, Eq)]
 pub struct Report {
+    /// The number of lines, including refused ones.
     pub lines: u64,
+    /// The number of refused lines.
     pub refused: u64,
 }
 
-/// The reason why a run stopped.
+/// The reason why a run stopped before its end.
 #[derive(Debug, Drop, PartialEq, Eq, Error)]
 pub enum RunError {
-    /// A read failed, or the input did not end within 2^32 reads. Nothing was written.
+    /// A read failed, or the input had not ended after 2^32 reads. Nothing was written.
     #[error("read failed")]
     Read,
-    /// A write failed. Some first bytes of the output may have been written.
+    /// A write failed. The beginning of the output may have been written.
     #[error("write failed")]
     Write,
     /// An allocation failed. Nothing was written.
@@ -46,20 +48,22 @@ impl From<AllocError> for RunError {
     }
 }
 
-/// The greatest number of reads of a run.
+/// The maximum number of reads in a run.
 const READS: u64 = 1 << 32;
 
-/// The number of bytes that a read asks for.
+/// The maximum number of bytes in a read.
 const CHUNK: usize = 1 << 16;
 
-/// Allocates room for the bytes of one read.
+/// Allocates a buffer for the bytes of one read.
 fn make_chunk(alloc: Global) -> Result<Vec<u8>, AllocError>
     ensures { IfOk result (λ chunk. 0 < vec_len chunk) }
 {
     vec![in alloc; 0u8; CHUNK]
 }
 
-/// Reads once, and appends the bytes to the input. Returns whether the reader was at its end.
+/// Reads once from `reader`, with `chunk` as the buffer, and appends the bytes to `input`. Returns
+/// whether the reader was at its end. If the read was interrupted, appends nothing and returns
+/// `false`. The error is `Read` or `Memory`.
 fn read_once<R: Read>(
     reader: &mut R,
     chunk: &mut Vec<u8>,
@@ -88,7 +92,8 @@ fn read_once<R: Read>(
     }
 }
 
-/// Reads all bytes of a reader, up to its end.
+/// Reads all bytes of a reader. The error is `Read` if a read fails or the end does not come within
+/// `READS` reads, or `Memory`.
 fn read_input<R: Read>(alloc: Global, reader: &mut R) -> Result<Vec<u8>, RunError>
     ensures bytes { IfOk result
         (λ input. IfSome (R.remaining reader.old) (λ bytes. input.items ≡ bytes)) }
@@ -104,14 +109,14 @@ fn read_input<R: Read>(alloc: Global, reader: &mut R) -> Result<Vec<u8>, RunErro
     Err(RunError::Read)
 }
 
-/// The results of the lines so far: their text, and the counts.
+/// The output for the lines so far: the text of their results, and their numbers.
 #[derive(Drop)]
 struct Answers {
     text: String,
     report: Report,
 }
 
-/// Returns the word of a fault.
+/// Returns the word that stands for a fault in the output.
 fn fault_word(fault: &LineError) -> &'static str
     ensures { result.now ≡ fault_word fault.now }
 {
@@ -125,7 +130,7 @@ fn fault_word(fault: &LineError) -> &'static str
     }
 }
 
-/// Returns the result of a line of bytes. One that is not UTF-8 names no operation.
+/// Runs the command in a line of bytes. The error for a line that is not UTF-8 is `Op`.
 fn answer_bytes(alloc: Global, line: &[u8]) -> Result<String, LineError>
     ensures { Tells string_bytes (meaning_of line.now) result }
 {
@@ -135,7 +140,8 @@ fn answer_bytes(alloc: Global, line: &[u8]) -> Result<String, LineError>
     }
 }
 
-/// Appends the refusal of a line to the text.
+/// Appends the line of a refusal to the text, without a line feed: `line N: refused: WORD`. N is
+/// `number`, and WORD stands for the fault.
 fn push_refusal(
     alloc: Global,
     text: &mut String,
@@ -154,7 +160,7 @@ fn push_refusal(
 }
 
 impl Answers {
-    /// Creates an empty output.
+    /// Creates an output without lines.
     fn new(alloc: Global) -> Answers
         ensures text { string_bytes result.text ≡ [] }
         ensures report { result.report ≡ record { lines = 0; refused = 0 } }
@@ -169,7 +175,8 @@ impl Answers {
         }
     }
 
-    /// Appends the result of the next line, and counts it.
+    /// Runs the command in the next line, appends its result or its refusal to the text, and counts
+    /// the line. The error is `Memory`.
     fn add(&mut self, alloc: Global, line: &[u8]) -> Result<(), RunError>
         requires lines { self.old.report.lines + 1 < 2 ^ 64 }
         requires refused { self.old.report.refused + 1 < 2 ^ 64 }
@@ -191,14 +198,15 @@ impl Answers {
     }
 }
 
-/// Returns the place of the first line feed.
+/// Returns the index of the first line feed, or `None` if there is none.
 fn line_end(text: &[u8]) -> Option<usize>
     ensures { result ≡ position (λ c. c == 10) text.now }
 {
     text.iter().position(|c| *c == b'\n')
 }
 
-/// Splits a text that is not empty into its first line and the text after that line's line feed.
+/// Splits a text that is not empty after its first line. Returns the line without its line feed,
+/// and the text after the line feed.
 fn split_line(text: &[u8]) -> (&[u8], &[u8])
     requires { 0 < length text.now }
     ensures lines { lines_of text.now ≡ result.0.now ∷ lines_of result.1.now }
@@ -210,7 +218,7 @@ fn split_line(text: &[u8]) -> (&[u8], &[u8])
     }
 }
 
-/// Returns the results of all lines of an input.
+/// Runs the commands in all lines of an input. The error is `Memory`.
 fn answer_lines(alloc: Global, input: &[u8]) -> Result<Answers, RunError>
     ensures text { IfOk result (λ answers. string_bytes answers.text ≡ output_of input.now) }
     ensures report { IfOk result (λ answers. Reports input.now answers.report) }
@@ -226,7 +234,7 @@ fn answer_lines(alloc: Global, input: &[u8]) -> Result<Answers, RunError>
     Ok(answers)
 }
 
-/// Writes a text to its end.
+/// Writes a whole text, and flushes the writer. The error is `Write`.
 pub(crate) fn write_text<W: Write>(writer: &mut W, text: &str) -> Result<(), RunError>
     ensures written { OnOk result
         (Appends (W.contents writer.old) (W.contents writer.new) text.now) }
@@ -241,9 +249,10 @@ pub(crate) fn write_text<W: Write>(writer: &mut W, text: &str) -> Result<(), Run
     Ok(())
 }
 
-/// Reads the input to its end, and then writes the results of all its lines, each ended by a line
-/// feed. A refused line has the result `line N: refused: WORD`, N counted from 1. Reads at most
-/// 2^32 times. If an allocation fails, the run stops before anything is written.
+/// Reads the whole input, and then writes the result of each line, with a line feed after it. A
+/// refused line has the result `line N: refused: WORD`, where N counts the lines from 1. Returns
+/// the number of lines and of refused lines. The error is `Read` if a read fails or the input does
+/// not end within 2^32 reads, `Write` if a write fails, or `Memory`.
 pub fn run<R: Read, W: Write>(
     alloc: Global,
     reader: &mut R,

@@ -1,4 +1,4 @@
-//! Results of kernels as text.
+//! Formats the results of kernels as text.
 
 ghost use Rattle.std.specs.Prelude.{◌≡◌, [], ◌∷◌, pos, Err, IfErr, MatchResult};
 ghost use Rattle.std.specs.String.{string_bytes};
@@ -15,7 +15,7 @@ use polars_tables_rows::row_array::RowArray;
 use polars_tables_rows::written::write_rows;
 use std::alloc::Global;
 
-// Returns the rows of a kernel's result as words.
+// Formats the rows of a kernel's result as text. The error of the kernel must be `Memory`.
 pub(crate) fn write_made<A: RowArray>(
     alloc: Global,
     made: Result<A, ComputeError>,
@@ -29,7 +29,7 @@ pub(crate) fn write_made<A: RowArray>(
     Ok(write_rows(alloc, &rows)?)
 }
 
-// Returns a count as a word.
+// Formats a count as text. The error is `Memory`.
 pub(crate) fn write_count(alloc: Global, count: usize) -> Result<String, LineError>
     ensures { Tells string_bytes (told (Int (pos count) ∷ [])) result }
 {

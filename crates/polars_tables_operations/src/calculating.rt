@@ -1,4 +1,4 @@
-//! Arithmetic on arrays, as named by a line.
+//! Arithmetic on arrays of numbers, by the name of a calculation.
 
 ghost use Rattle.std.specs.Prelude.{◌≡◌, MatchResult, length};
 ghost use Rattle.polars_arrays_bits.specs.Errors.{IsMemory};
@@ -14,7 +14,7 @@ use polars_arrays_flat::primitive::PrimitiveArray;
 use polars_compute_arithmetic::arithmetic::ArithmeticKernel;
 use std::alloc::Global;
 
-/// Applies a function of one number to each number. The error is `Memory`.
+/// Applies a function to each number of an array. Null rows stay null. The error is `Memory`.
 pub fn change_rows<T: LineNumber>(
     alloc: Global,
     change: Change,
@@ -31,7 +31,8 @@ pub fn change_rows<T: LineNumber>(
     }
 }
 
-// Calculates with the numbers of two arrays, row by row, if their order matters.
+// Calculates with the numbers of two arrays of equal length, row by row, for calculations in which
+// the order matters. The error is `Memory`.
 fn calculate_in_order<T: LineNumber>(
     alloc: Global,
     calculation: OrderedCalculation,
@@ -53,7 +54,8 @@ fn calculate_in_order<T: LineNumber>(
     }
 }
 
-/// Calculates with the numbers of two arrays, row by row. The error is `Memory`.
+/// Calculates with the numbers of two arrays of equal length, row by row. The result is null where
+/// an operand is null or the divisor is 0. The error is `Memory`.
 pub fn calculate_rows<T: LineNumber>(
     alloc: Global,
     calculation: Calculation,
@@ -73,7 +75,8 @@ pub fn calculate_rows<T: LineNumber>(
     }
 }
 
-// Calculates with the numbers of an array and a scalar, if their order matters.
+// Calculates with each number of an array on the left, and a scalar on the right, for calculations
+// in which the order matters. The error is `Memory`.
 fn calculate_scalar_in_order<T: LineNumber>(
     alloc: Global,
     calculation: OrderedCalculation,
@@ -94,8 +97,8 @@ fn calculate_scalar_in_order<T: LineNumber>(
     }
 }
 
-/// Calculates with the numbers of an array on the left, and a scalar on the right. The error is
-/// `Memory`.
+/// Calculates with each number of an array on the left, and a scalar on the right. The result is
+/// null where the number is null or the divisor is 0. The error is `Memory`.
 pub fn calculate_scalar<T: LineNumber>(
     alloc: Global,
     calculation: Calculation,
@@ -114,8 +117,8 @@ pub fn calculate_scalar<T: LineNumber>(
     }
 }
 
-/// Calculates with a scalar on the left, and the numbers of an array on the right. The error is
-/// `Memory`.
+/// Calculates with a scalar on the left, and each number of an array on the right. The result is
+/// null where the number is null or the divisor is 0. The error is `Memory`.
 pub fn calculate_from_scalar<T: LineNumber>(
     alloc: Global,
     calculation: OrderedCalculation,

@@ -1,4 +1,4 @@
-//! Comparisons of the rows of two arrays, and of an array with a scalar.
+//! Compares the rows of an array with those of another one, or with a scalar.
 
 ghost use Rattle.std.specs.Prelude.{◌≡◌, None, length, replicate, MatchResult};
 ghost use Rattle.polars_arrays_bits.specs.Errors.{IsMemory};
@@ -17,9 +17,9 @@ use polars_arrays_flat::boolean::BooleanArray;
 use polars_arrays_flat::mask::Mask;
 use std::alloc::Global;
 
-// Returns a bit for each row, right if the comparison of the two rows is a truth value. The error
-// is `Memory`: any two arrays of one kind and length can be compared, so no kernel returns
-// `Unsupported`.
+// Returns a bit for each row: the result of the comparison. If the result is null, the bit has no
+// meaning. The error is `Memory`. It is never `Unsupported`, since any two arrays of the same kind
+// and length can be compared.
 fn compare_bits<A: KernelArray>(
     alloc: Global,
     comparison: ComparisonKind,
@@ -46,8 +46,9 @@ fn compare_bits<A: KernelArray>(
     }
 }
 
-// Returns a bit for each row, right if the comparison of the row with the scalar is a truth value.
-// The error is `Memory`: every such array has broadcasts, so no kernel returns `Unsupported`.
+// Returns a bit for each row: the result of comparing the row with the scalar. If the result is
+// null, the bit has no meaning. The error is `Memory`. It is never `Unsupported`, since each of
+// these kinds of arrays can be compared with a scalar.
 fn compare_bits_scalar<A: KernelArray>(
     alloc: Global,
     comparison: ComparisonKind,
@@ -72,7 +73,8 @@ fn compare_bits_scalar<A: KernelArray>(
     }
 }
 
-// Returns the rows that are present on both sides, or `None` if all are.
+// Returns a bit for each of `n` rows, 1 if the row is present on both sides. Returns `None` if both
+// masks have no bits, so that all rows are present. The error is `Memory`.
 fn present_in_both(
     alloc: Global,
     left: &Mask<'_>,
@@ -91,7 +93,8 @@ fn present_in_both(
     }
 }
 
-// Returns the validity of the results of a comparison.
+// Returns the validity of the results of a comparison. Missing comparisons have no null results;
+// others have null where a row of a side is null. `n` is the number of rows. The error is `Memory`.
 fn validity_of(
     alloc: Global,
     comparison: ComparisonKind,
@@ -110,7 +113,8 @@ fn validity_of(
     }
 }
 
-// Returns the bits of a comparison as truth values, with null if the comparison has no truth value.
+// Makes an array of the bits of a comparison. A row is null where the comparison has no truth
+// value. The error is `Memory`.
 fn answered(
     alloc: Global,
     comparison: ComparisonKind,
@@ -131,7 +135,7 @@ fn answered(
     Ok(answers)
 }
 
-/// Returns the results of a comparison for the rows of two arrays. The error is `Memory`.
+/// Compares two arrays of equal length, row by row. The error is `Memory`.
 pub fn compare_rows<A: KernelArray>(
     alloc: Global,
     comparison: ComparisonKind,
@@ -150,8 +154,7 @@ pub fn compare_rows<A: KernelArray>(
     answered(alloc, comparison, &left_mask, &right_mask, bits)
 }
 
-/// Returns the results of a comparison for the rows of an array and a scalar. The error is
-/// `Memory`.
+/// Compares each row of an array with a scalar. The error is `Memory`.
 pub fn compare_scalar<A: KernelArray>(
     alloc: Global,
     comparison: ComparisonKind,

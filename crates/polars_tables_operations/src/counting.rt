@@ -1,4 +1,4 @@
-//! Counts of the bits of rows.
+//! Counts bits in each row of an array.
 
 ghost use Rattle.std.specs.Prelude.{MatchResult};
 ghost use Rattle.polars_arrays_bits.specs.Errors.{IsMemory};
@@ -13,7 +13,7 @@ use polars_arrays_bits::error::ComputeError;
 use polars_arrays_flat::primitive::PrimitiveArray;
 use std::alloc::Global;
 
-/// Counts the bits of one kind in each row. The error is `Memory`.
+/// Counts the bits of one kind in each row. Null rows stay null. The error is `Memory`.
 pub fn count_bits<A: KernelArray>(
     alloc: Global,
     count: BitCount,

@@ -1,4 +1,5 @@
-//! Distinct numbers of states as text.
+//! Formats the distinct numbers of a state as text. A state has collected the distinct rows of a
+//! list whose numbers lie in a range.
 
 ghost use Rattle.std.specs.Prelude.{◌≡◌, IfOk};
 ghost use Rattle.std.specs.String.{string_bytes};
@@ -17,7 +18,8 @@ use polars_compute_unique::primitive::PrimitiveRangedUniqueState;
 use polars_tables_rows::fault::LineError;
 use std::alloc::{AllocError, Global};
 
-// Returns the distinct rows that a state has seen.
+// Returns the distinct rows of a state as text: numbers in ascending order, and null last. The
+// error is `Memory`.
 #[tactic(auto, using(crate::proofs::Answered::answered))]
 fn list_distinct<T: LineNumber>(
     alloc: Global,
@@ -28,7 +30,7 @@ fn list_distinct<T: LineNumber>(
     write_made(alloc, state.finalize_unique(alloc))
 }
 
-/// Returns the distinct rows that a state has seen, or their number.
+/// Returns the distinct rows of a state, or their number, as text. The error is `Memory`.
 pub fn answer_distinct<T: LineNumber>(
     alloc: Global,
     asked: Distinct,
@@ -43,7 +45,8 @@ pub fn answer_distinct<T: LineNumber>(
     }
 }
 
-/// Returns whether a state has seen all numbers of its range, and a null, as a word.
+/// Returns `true` as text if the state has seen every number of its range and a null, and otherwise
+/// `false`. The error is that memory ran out.
 pub fn write_all_seen<T: LineNumber>(
     alloc: Global,
     state: &PrimitiveRangedUniqueState<T>,

@@ -1,4 +1,4 @@
-//! Operations on rows of all types.
+//! Runs the operations on rows of any type, and formats their results as text.
 
 ghost use Rattle.std.specs.Prelude.{◌≡◌, IfOk, map, option_map};
 ghost use Rattle.std.specs.String.{string_bytes};
@@ -30,7 +30,7 @@ use crate::reducing::{find_extremes, reduce};
 use polars_tables_rows::fault::LineError;
 use std::alloc::{AllocError, Global};
 
-// Compares two lists of rows, which must have equal lengths.
+// Compares two lists row by row. The error is `Length` if their lengths differ, or `Memory`.
 #[tactic(auto, using(crate::proofs::Answered::answered))]
 fn answer_rows<A: KernelArray>(
     alloc: Global,
@@ -48,7 +48,8 @@ fn answer_rows<A: KernelArray>(
     write_made(alloc, compare_rows(alloc, comparison, left, right))
 }
 
-// Compares a list of rows with a scalar: a list of one row that is not null.
+// Compares each row of a list with a scalar, which is the only row of the list `scalars`. The error
+// is `Length` if `scalars` does not have one row, `Range` if this row is null, or `Memory`.
 #[tactic(auto, using(crate::proofs::Answered::answered))]
 fn answer_scalar<A: KernelArray>(
     alloc: Global,
@@ -69,7 +70,8 @@ fn answer_scalar<A: KernelArray>(
     write_made(alloc, compare_scalar(alloc, comparison, rows, &scalar))
 }
 
-// Returns the result of a comparison for its lists of rows.
+// Compares the first of two lists with the second one: row by row, or with the scalar in the second
+// list. The error is `Length` if there are not two lists, or that of the comparison.
 fn answer_comparison<A: KernelArray>(
     alloc: Global,
     comparison: ComparisonKind,
@@ -89,7 +91,8 @@ fn answer_comparison<A: KernelArray>(
     }
 }
 
-// Counts the bits of one kind in each row of a list.
+// Counts the bits of one kind in each row of a single list. The error is `Length` if there is not
+// exactly one list, or `Memory`.
 #[tactic(auto, using(crate::proofs::Answered::answered))]
 fn answer_count<A: KernelArray>(
     alloc: Global,
@@ -106,7 +109,7 @@ fn answer_count<A: KernelArray>(
     write_made(alloc, count_bits(alloc, count, list))
 }
 
-// Returns the word of a value, or `none`.
+// Formats a value as text, or `None` as `none`. The error is that memory ran out.
 fn write_value<A: KernelArray>(alloc: Global, found: Option<A::Value>) -> Result<String, AllocError>
     ensures { IfOk result (λ text. string_bytes text ≡ row_or_none (option_map A.value_row found)) }
 {
@@ -116,7 +119,8 @@ fn write_value<A: KernelArray>(alloc: Global, found: Option<A::Value>) -> Result
     }
 }
 
-// Reduces the rows of a list, if one is present.
+// Reduces the present rows of a single list to one row. Without a present row the result is `none`.
+// The error is `Length` if there is not exactly one list, or `Memory`.
 fn answer_reduction<A: KernelArray>(
     alloc: Global,
     reduction: Reduction,
@@ -132,7 +136,8 @@ fn answer_reduction<A: KernelArray>(
     Ok(write_value::<A>(alloc, reduce(reduction, list))?)
 }
 
-// Returns the words of two values, or `none`.
+// Formats two values as text, separated by a space, or `None` as `none`. The error is that memory
+// ran out.
 fn write_pair<A: KernelArray>(
     alloc: Global,
     found: Option<(A::Value, A::Value)>,
@@ -148,7 +153,8 @@ fn write_pair<A: KernelArray>(
     }
 }
 
-// Returns the least and the greatest row of a list, if one is present.
+// Returns the least and the greatest row of a single list as text. Without a present row the result
+// is `none`. The error is `Length` if there is not exactly one list, or `Memory`.
 fn answer_extremes<A: KernelArray>(alloc: Global, lists: &[A]) -> Result<String, LineError>
     ensures { Tells string_bytes
         (general_answer Extremes A.kind (map (λ a. rows_under (A.mask a) (A.slots a)) lists.now))
@@ -160,7 +166,9 @@ fn answer_extremes<A: KernelArray>(alloc: Global, lists: &[A]) -> Result<String,
     Ok(write_pair::<A>(alloc, find_extremes(list))?)
 }
 
-/// Returns the result of an operation on rows of any type for its lists of rows.
+/// Runs an operation on rows of any type, and returns its result as text. The error is `Length` if
+/// the number of lists or their lengths don't fit the operation, `Range` if a scalar is null, or
+/// `Memory`.
 pub fn answer_general<A: KernelArray>(
     alloc: Global,
     operation: GeneralOperation,

@@ -1,4 +1,4 @@
-//! Arrays that operations on rows of all types accept: those with all kernels.
+//! The kinds of arrays that have a kernel for each operation on rows of any type.
 
 ghost use Rattle.std.specs.Prelude.{◌≡◌, length, true, refl};
 ghost use Rattle.std.proofs.Common.{sym};
@@ -20,24 +20,24 @@ use polars_compare_order::kernel::TotalOrdKernel;
 use polars_compute_reductions::bitwise::BitwiseKernel;
 use polars_tables_rows::row_array::RowArray;
 
-/// A kind of array that a line can name and that has all kernels for rows of any type. Its scalars
-/// are its values.
+/// A kind of array that has a kernel for each operation on rows of any type. The scalars of all
+/// these kernels are the values of `RowArray`.
 pub trait KernelArray: RowArray
     + TotalEqKernel<Scalar = <Self as RowArray>::Value>
     + TotalOrdKernel<Scalar = <Self as RowArray>::Value>
     + BitwiseKernel<Scalar = <Self as RowArray>::Value>
     + MinMaxKernel<Scalar = <Self as RowArray>::Value> {
-    /// States that the row of a value is the one of its bits. Does nothing.
+    /// States that the bits of a value determine its row. Does nothing at run time.
     fn law_bits(value: Self::Value)
         ensures { bits_row Self.kind (row_bits (width_of Self.kind) (Self.value_row value))
             ≡ Self.value_row value };
 
-    // Rows of an array are stored as values.
+    // The stored rows of an array are values, also those under nulls.
     ghost values_law: { AreValues Self.value_row };
 
     ghost stored_law: { (a : Self) → StoresValues Self.value_row (Self.slots a) };
 
-    // A value has the same row as a scalar and as a stored value.
+    // A value stands for the same row as a scalar and as a stored value.
     ghost eq_scalar_law: { (s : Self.Value) → Self.TotalEqKernel.scalar_row s ≡ Self.value_row s };
 
     ghost ord_scalar_law: { (s : Self.Value) → Self.TotalOrdKernel.scalar_row s
@@ -48,7 +48,7 @@ pub trait KernelArray: RowArray
     ghost extreme_scalar_law: { (s : Self.Value) → Self.MinMaxKernel.scalar_row s
         ≡ Self.value_row s };
 
-    // Kernels that name rows name those of the array, with the width of the type.
+    // The contracts of kernels speak of the rows of the array, and of the width of its type.
     ghost bit_rows_law: { (a : Self) → Self.BitwiseKernel.rows a
         ≡ rows_under (Self.mask a) (Self.slots a) };
 
@@ -67,7 +67,7 @@ pub trait KernelArray: RowArray
 
     ghost broadcasts_law: { Self.TotalEqKernel.broadcasts ≡ true };
 
-    // Each array is good, and any two are of one type.
+    // Each array is good, and any two arrays have the same type.
     ghost good_law: { (a : Self) → Self.good a };
 
     ghost one_type_law: { (a b : Self) → Self.same_type a b };

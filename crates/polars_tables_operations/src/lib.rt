@@ -1,4 +1,4 @@
-//! The operations of the line language, on arrays of rows.
+//! The operations that a line can name, on arrays of rows.
 #![tactic(auto)]
 
 mod answering;

@@ -1,4 +1,4 @@
-//! Number types that a line can name, with all that operations require of them.
+//! The number types that a line can name, with all traits that the operations need.
 
 ghost use Rattle.std.specs.Prelude.{◌≡◌, false, refl};
 ghost use Rattle.polars_arrays_flat.specs.Row.{Int};
@@ -13,17 +13,17 @@ use polars_compute_reductions::wrapping::law_wrapped;
 use polars_compute_slots::number::UniqueNumber;
 use polars_tables_rows::row_number::RowNumber;
 
-/// A number type that a line can name.
+/// A number type that a line can name, with all traits that the operations need.
 pub trait LineNumber: RowNumber
     + HasPrimitiveArithmeticKernel
     + BitNumber
     + WrappingSum
     + UniqueNumber
     + 'static {
-    // They are not truth values.
+    // The number type is not that of truth values.
     ghost number_kind_law: { is_boolean Self.kind ≡ false };
 
-    /// States that a number is the one of its bits. Does nothing.
+    /// States that the bits of a number determine it. Does nothing at run time.
     final fn law_number_bits(self)
         ensures { bits_row Self.kind (number_bits (width_of Self.kind) (Self.value self))
             ≡ Int (Self.value self) }

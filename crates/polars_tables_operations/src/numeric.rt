@@ -1,4 +1,4 @@
-//! Operations on numbers.
+//! Runs the operations on numbers, and formats their results as text.
 
 ghost use Rattle.std.specs.Prelude.{◌≡◌, IfOk, map, Ok};
 ghost use Rattle.std.specs.String.{string_bytes};
@@ -49,7 +49,7 @@ use polars_tables_rows::fault::LineError;
 use polars_tables_rows::row_array::RowArray;
 use std::alloc::{AllocError, Global};
 
-// Returns the only list.
+// Returns the single list of `lists`. The error is `Length` if there is not exactly one list.
 fn into_one<A: Drop>(lists: Vec<A>) -> Result<A, LineError>
     ensures { Tells {Y = A} (λ list. list) (of_one lists.items (λ list. Ok list)) result }
 {
@@ -63,7 +63,7 @@ fn into_one<A: Drop>(lists: Vec<A>) -> Result<A, LineError>
     Ok(list)
 }
 
-// Returns the two lists.
+// Returns the two lists of `lists`. The error is `Length` if there are not exactly two.
 fn into_two<A: Drop>(lists: Vec<A>) -> Result<(A, A), LineError>
     ensures { Tells {Y = A × A}
         (λ pair. pair) (of_two lists.items (λ left right. Ok (left, right))) result }
@@ -76,7 +76,8 @@ fn into_two<A: Drop>(lists: Vec<A>) -> Result<(A, A), LineError>
     Ok((left, right))
 }
 
-// Returns the only number of a borrowed list of rows.
+// Returns the number in the only row of a borrowed list. The error is `Length` if the list does not
+// have one row, and `Range` if the row is null.
 fn lent_scalar<T: LineNumber>(scalars: &PrimitiveArray<T>) -> Result<T, LineError>
     ensures { Tells T.value (of_number_scalar (number_rows T.value scalars.now) (λ n. Ok n))
         result }
@@ -90,14 +91,16 @@ fn lent_scalar<T: LineNumber>(scalars: &PrimitiveArray<T>) -> Result<T, LineErro
     }
 }
 
-// Returns the only number of a list of rows.
+// Returns the number in the only row of a list. The error is `Length` if the list does not have one
+// row, and `Range` if the row is null.
 fn scalar_of<T: LineNumber>(scalars: PrimitiveArray<T>) -> Result<T, LineError>
     ensures { Tells T.value (of_number_scalar (number_rows T.value scalars) (λ n. Ok n)) result }
 {
     lent_scalar(&scalars)
 }
 
-// Applies a function of one number to each number of a list.
+// Applies a function to each number of a single list. The error is `Length` if there is not exactly
+// one list, or `Memory`.
 #[tactic(auto, using(crate::proofs::Answered::answered))]
 fn answer_change<T: LineNumber>(
     alloc: Global,
@@ -111,7 +114,8 @@ fn answer_change<T: LineNumber>(
     write_made(alloc, change_rows(alloc, change, rows))
 }
 
-// Calculates with the numbers of two lists, which must have equal lengths.
+// Calculates with the numbers of two lists, row by row. The error is `Length` if their lengths
+// differ, or `Memory`.
 #[tactic(auto, using(crate::proofs::Answered::answered))]
 fn answer_rows<T: LineNumber>(
     alloc: Global,
@@ -130,7 +134,9 @@ fn answer_rows<T: LineNumber>(
     write_made(alloc, calculate_rows(alloc, calculation, left, right))
 }
 
-// Calculates with the numbers of a list on the left, and a scalar on the right.
+// Calculates with each number of a list on the left, and a scalar on the right, which is the only
+// row of `scalars`. The error is `Length` if `scalars` does not have one row, `Range` if this row
+// is null, or `Memory`.
 #[tactic(auto, using(crate::proofs::Answered::answered))]
 fn answer_scalar<T: LineNumber>(
     alloc: Global,
@@ -146,7 +152,8 @@ fn answer_scalar<T: LineNumber>(
     write_made(alloc, calculate_scalar(alloc, calculation, rows, scalar))
 }
 
-// Returns the result of a calculation for its lists of rows.
+// Calculates with the first of two lists and the second one: row by row, or with the scalar in the
+// second list. The error is `Length` if there are not two lists, or that of the calculation.
 fn answer_calculation<T: LineNumber>(
     alloc: Global,
     calculation: Calculation,
@@ -164,8 +171,9 @@ fn answer_calculation<T: LineNumber>(
     }
 }
 
-// Returns the results of a calculation as words. The only row of the first list is the scalar on
-// the left, and the rows of the second list are the numbers on the right.
+// Calculates with a scalar on the left, and each number of a list on the right. The scalar is the
+// only row of the first list; the numbers are in the second list. The error is `Length` if there
+// are not two lists or the first does not have one row, `Range` if the scalar is null, or `Memory`.
 #[tactic(auto, using(crate::proofs::Answered::answered))]
 fn answer_from_scalar<T: LineNumber>(
     alloc: Global,
@@ -184,7 +192,7 @@ fn answer_from_scalar<T: LineNumber>(
     )
 }
 
-// Returns the word of the wrapped sum of rows.
+// Formats the wrapped sum of the present rows as text. The error is that memory ran out.
 fn write_sum<T: LineNumber>(alloc: Global, rows: &PrimitiveArray<T>) -> Result<String, AllocError>
     ensures { IfOk result
         (λ text. string_bytes text
@@ -195,7 +203,8 @@ fn write_sum<T: LineNumber>(alloc: Global, rows: &PrimitiveArray<T>) -> Result<S
     wrapping_sum_arr(rows).to_string(alloc)
 }
 
-// Returns the sum of a list.
+// Returns the wrapped sum of a single list as text. The error is `Length` if there is not exactly
+// one list, or `Memory`.
 fn answer_sum<T: LineNumber>(
     alloc: Global,
     lists: Vec<PrimitiveArray<T>>,
@@ -207,8 +216,9 @@ fn answer_sum<T: LineNumber>(
     Ok(write_sum(alloc, &rows)?)
 }
 
-// Creates the state that collects the distinct numbers of a range, and appends the rows of the
-// second list. The first list holds the two ends of the range.
+// Creates a state of the distinct rows that were seen in a range, and appends the rows of the
+// second list. The first list has the two ends of the range. The error is `Length` if there are not
+// two lists, or that of `state_of`.
 fn state_of_lists<T: LineNumber>(
     alloc: Global,
     lists: Vec<PrimitiveArray<T>>,
@@ -224,7 +234,8 @@ fn state_of_lists<T: LineNumber>(
     state
 }
 
-// Returns the distinct rows of a list, or their number. The numbers lie between two ends.
+// Returns the distinct rows of the second list, or their number, as text. The first list has the
+// two ends of a range, in which all numbers must lie. The errors are those of `state_of_lists`.
 fn answer_range<T: LineNumber>(
     alloc: Global,
     asked: Distinct,
@@ -237,7 +248,8 @@ fn answer_range<T: LineNumber>(
     answer_distinct(alloc, asked, state_of_lists(alloc, lists)?)
 }
 
-// Returns whether a list has all numbers between two ends, and a null.
+// Returns `true` or `false` as text: whether the second list has every number of a range, and a
+// null. The first list has the two ends of the range. The errors are those of `state_of_lists`.
 fn answer_all<T: LineNumber>(
     alloc: Global,
     lists: Vec<PrimitiveArray<T>>,
@@ -249,7 +261,9 @@ fn answer_all<T: LineNumber>(
     Ok(write_all_seen(alloc, &state)?)
 }
 
-/// Returns the result of an operation on numbers for its lists of rows.
+/// Runs an operation on numbers, and returns its result as text. The error is `Length` if the
+/// number of lists or their lengths don't fit the operation, `Range` if a scalar is null, the ends
+/// of a range are wrong or a present row lies outside the range, or `Memory`.
 pub fn answer_numeric<T: LineNumber>(
     alloc: Global,
     operation: NumericOperation,

@@ -1,12 +1,12 @@
-//! The operations of the line language.
+//! The operations that a line can name, and their names.
 
 ghost use Rattle.std.specs.Prelude.{◌≡◌};
 ghost use Rattle.polars_tables_operations.specs.Operations.{lists_taken, operation_of};
 
 use polars_tables_rows::tables::find;
 
-/// A comparison of two rows. The first six are null if either row is null. The last two are always
-/// a truth value: null is equal to null alone.
+/// A comparison of two rows. For the first six the result is null if either row is null. For the
+/// last two the result is always a truth value: null is equal only to null.
 #[derive(Clone, Copy, Debug, PartialEq, Eq)]
 pub enum ComparisonKind {
     Equal,
@@ -19,16 +19,16 @@ pub enum ComparisonKind {
     UnequalMissing,
 }
 
-/// The right side of a comparison or calculation.
+/// The right operand of a comparison or a calculation.
 #[derive(Clone, Copy, Debug, PartialEq, Eq)]
 pub enum Operand {
-    /// The rows of a second list, row by row.
+    /// A second list. Row `i` of the first list is combined with row `i` of the second.
     Rows,
-    /// One scalar for all rows.
+    /// A single scalar. Each row of the list is combined with it.
     Scalar,
 }
 
-/// A kind of bits of a row, to be counted.
+/// A group of bits in a row that can be counted.
 #[derive(Clone, Copy, Debug, PartialEq, Eq)]
 pub enum BitCount {
     Ones,
@@ -39,7 +39,7 @@ pub enum BitCount {
     TrailingZeros,
 }
 
-/// A reduction of the present rows of a list.
+/// A reduction of the present rows of a list to one row.
 #[derive(Clone, Copy, Debug, PartialEq, Eq)]
 pub enum Reduction {
     /// The bitwise AND of all rows.
@@ -61,14 +61,14 @@ pub enum Change {
     Negation,
 }
 
-/// A calculation with two numbers whose order matters.
+/// A calculation with two numbers that can't be swapped.
 #[derive(Clone, Copy, Debug, PartialEq, Eq)]
 pub enum OrderedCalculation {
     Subtract,
     FloorDivide,
     TruncatedDivide,
     Modulo,
-    /// Another name of division, rounding down.
+    /// Division that rounds down, like `FloorDivide`.
     LegacyDivide,
 }
 
@@ -83,56 +83,61 @@ pub enum Calculation {
 /// A question about the distinct rows of a list.
 #[derive(Clone, Copy, Debug, PartialEq, Eq)]
 pub enum Distinct {
-    /// All of them, ascending, and a null last.
+    /// The distinct rows themselves: present rows in ascending order, and then null if the list has
+    /// a null.
     Listed,
-    /// The number of them, including null.
+    /// The number of distinct rows. Null counts as one.
     Counted,
-    /// The number of them that are present.
+    /// The number of distinct present rows.
     PresentCounted,
 }
 
-/// An operation on rows of any type.
+/// An operation on rows of any type, numbers or truth values.
 #[derive(Clone, Copy, Debug, PartialEq, Eq)]
 pub enum GeneralOperation {
-    /// A comparison of the rows of a list.
+    /// Compares the rows of a list with a second list or with a scalar.
     Compare(ComparisonKind, Operand),
-    /// A count of each row's bits.
+    /// Counts bits in each row of a list.
     CountBits(BitCount),
-    /// A reduction of the rows of a list, if one is present.
+    /// Reduces the present rows of a list to one row. Without a present row the result is `none`.
     Reduce(Reduction),
-    /// The least and the greatest row of a list, if one is present.
+    /// Returns the least and the greatest row of a list. Without a present row the result is
+    /// `none`.
     Extremes,
 }
 
-/// An operation on numbers.
+/// An operation on numbers only.
 #[derive(Clone, Copy, Debug, PartialEq, Eq)]
 pub enum NumericOperation {
-    /// A function of each number of a list.
+    /// Applies a function to each number of a list.
     Change(Change),
-    /// A calculation with the numbers of a list on the left.
+    /// Calculates with the numbers of a list as left operands, and a second list or a scalar on the
+    /// right.
     Calculate(Calculation, Operand),
-    /// A calculation with a scalar on the left and each number of a list on the right.
+    /// Calculates with a scalar as the left operand, and each number of a list on the right.
     CalculateFromScalar(OrderedCalculation),
-    /// The sum of a list, wrapped.
+    /// Adds the present numbers of a list, and wraps the sum to the type.
     Sum,
-    /// The distinct rows of a list whose numbers lie between two ends.
+    /// Answers a question about the distinct rows of a list. A list before it has the first and the
+    /// last number of a range, in which all numbers must lie.
     DistinctInRange(Distinct),
-    /// A test of whether such a list has all numbers from one end to the other, and a null.
+    /// Returns whether a list has every number of a range, and a null. A list before it has the
+    /// first and the last number of the range.
     HasAllOfRange,
 }
 
-/// The operation that a line names.
+/// An operation that a line can name.
 #[derive(Clone, Copy, Debug, PartialEq, Eq)]
 pub enum Operation {
-    /// An operation on rows of every type.
+    /// An operation on rows of any type.
     General(GeneralOperation),
-    /// An operation on numbers.
+    /// An operation on numbers only.
     Numeric(NumericOperation),
-    /// The distinct rows of a list of truth values.
+    /// A question about the distinct rows of a list of truth values.
     DistinctTruths(Distinct),
 }
 
-// A row of the table: a comparison, and the kind of its right side.
+// Makes an entry of `OPERATIONS`: a comparison, and the kind of its right operand.
 macro_rules! compares {
     ($name:expr, $comparison:ident, $operand:ident) => {
         (
@@ -145,7 +150,7 @@ macro_rules! compares {
     };
 }
 
-// A row of the table: a count of bits.
+// Makes an entry of `OPERATIONS`: a count of bits.
 macro_rules! counts {
     ($name:expr, $count:ident) => {
         (
@@ -155,7 +160,7 @@ macro_rules! counts {
     };
 }
 
-// A row of the table: a reduction of rows.
+// Makes an entry of `OPERATIONS`: a reduction of rows.
 macro_rules! reduces {
     ($name:expr, $reduction:ident) => {
         (
@@ -165,14 +170,14 @@ macro_rules! reduces {
     };
 }
 
-// A row of the table: an operation on numbers.
+// Makes an entry of `OPERATIONS`: an operation on numbers.
 macro_rules! numeric {
     ($name:expr, $operation:expr) => {
         ($name, Operation::Numeric($operation))
     };
 }
 
-// A row of the table: a calculation, and the kind of its right side.
+// Makes an entry of `OPERATIONS`: a calculation, and the kind of its right operand.
 macro_rules! calculates {
     ($name:expr, $calculation:ident, $operand:ident) => {
         numeric!(
@@ -182,7 +187,8 @@ macro_rules! calculates {
     };
 }
 
-// A row of the table: a calculation in which the order matters, and the kind of its right side.
+// Makes an entry of `OPERATIONS`: a calculation in which the order matters, and the kind of its
+// right operand.
 macro_rules! calculates_in_order {
     ($name:expr, $calculation:ident, $operand:ident) => {
         numeric!(
@@ -195,7 +201,7 @@ macro_rules! calculates_in_order {
     };
 }
 
-// A row of the table: a calculation with a scalar on the left.
+// Makes an entry of `OPERATIONS`: a calculation with a scalar as left operand.
 macro_rules! calculates_from_scalar {
     ($name:expr, $calculation:ident) => {
         numeric!(
@@ -205,7 +211,8 @@ macro_rules! calculates_from_scalar {
     };
 }
 
-/// The operations by name. A new one needs a row here and in `specs/Operations.antt`.
+/// The operations with their names. A new operation needs an entry here and in
+/// `specs/Operations.antt`.
 const OPERATIONS: [(&str, Operation); 57] = [
     compares!("eq", Equal, Rows),
     compares!("ne", Unequal, Rows),
@@ -279,14 +286,15 @@ const OPERATIONS: [(&str, Operation); 57] = [
 ];
 
 impl Operation {
-    /// Returns the operation of a name.
+    /// Returns the operation with this name, or `None` if there is no such operation.
     pub fn from_name(name: &str) -> Option<Operation>
         ensures { result ≡ operation_of name.now }
     {
         find(&OPERATIONS, name)
     }
 
-    /// Returns the number of lists of rows that the operation accepts.
+    /// Returns the number of lists of rows that the operation takes. A scalar counts as a list of
+    /// one row.
     pub fn lists_taken(self) -> usize
         ensures { result ≡ lists_taken self }
     {

@@ -1,4 +1,4 @@
-//! States of the numbers between two ends.
+//! Collects the distinct numbers of a list that lie in a range.
 
 ghost use Rattle.std.specs.Prelude.{◌≡◌, ℤ, Ok};
 ghost use Rattle.polars_arrays_flat.specs.ArrayRows.{number_rows};
@@ -14,7 +14,8 @@ use polars_tables_rows::fault::{LineError, or_memory};
 use polars_tables_rows::row_array::RowArray;
 use std::alloc::Global;
 
-// Returns the two ends in a list of rows.
+// Returns the two ends of a range from a list of rows. The error is `Length` if the list does not
+// have two rows, and `Range` if one of the two is null.
 fn ends_of<T: LineNumber>(ends: &PrimitiveArray<T>) -> Result<(T, T), LineError>
     ensures { Tells {Y = ℤ × ℤ}
         (λ pair. (T.value pair.0, T.value pair.1))
@@ -29,7 +30,8 @@ fn ends_of<T: LineNumber>(ends: &PrimitiveArray<T>) -> Result<(T, T), LineError>
     Ok((first, last))
 }
 
-// Returns whether two numbers are in order, and their range has at most a million numbers.
+// Returns whether `first` is at most `last`, and there are at most a million numbers from `first`
+// to `last`, both included.
 fn are_ends<T: LineNumber>(first: T, last: T) -> bool
     ensures { result ≡ are_ends (T.value first) (T.value last) }
 {
@@ -37,7 +39,9 @@ fn are_ends<T: LineNumber>(first: T, last: T) -> bool
     first <= last && last - first < 1_000_000
 }
 
-// Creates the state of the numbers between two ends, and appends rows.
+// Creates a state of the distinct rows that were seen among the numbers from `first` to `last`, and
+// appends rows to it. The error is `Range` if `are_ends` is false or a present row lies outside the
+// range, or `Memory`.
 fn seen_between<T: LineNumber>(
     alloc: Global,
     first: T,
@@ -61,7 +65,9 @@ fn seen_between<T: LineNumber>(
     Ok(state)
 }
 
-/// Creates the state of the range given by a list of its two ends, and appends rows.
+/// Creates a state of the distinct rows that were seen in a range, and appends rows to it. The list
+/// `ends` has the first and the last number of the range. The error is `Length` or `Range` if
+/// `ends` is not such a list, `Range` if a present row lies outside the range, or `Memory`.
 pub fn state_of<T: LineNumber>(
     alloc: Global,
     ends: &PrimitiveArray<T>,

@@ -1,4 +1,4 @@
-//! Reductions of the present rows of an array.
+//! Reduces the present rows of an array to one row.
 
 ghost use Rattle.std.specs.Prelude.{◌≡◌, option_map};
 ghost use Rattle.polars_arrays_flat.specs.StoredRows.{rows_under};
@@ -11,7 +11,7 @@ ghost use Rattle.polars_tables_rows.specs.Types.{width_of};
 use crate::kernel_array::KernelArray;
 use crate::operation::Reduction;
 
-// Returns a value unchanged. The proof learns from it that the value is the one of its bits.
+// Returns a value unchanged. The proof learns from this call that the bits of a value determine it.
 fn by_bits<A: KernelArray>(found: Option<A::Value>) -> Option<A::Value>
     ensures same { result ≡ found }
     ensures bits { option_map A.value_row result
@@ -27,7 +27,7 @@ fn by_bits<A: KernelArray>(found: Option<A::Value>) -> Option<A::Value>
     }
 }
 
-/// Reduces the rows of an array, if one is present.
+/// Reduces the present rows of an array to one value. Returns `None` if no row is present.
 pub fn reduce<A: KernelArray>(reduction: Reduction, array: &A) -> Option<A::Value>
     ensures { option_map A.value_row result
         ≡ reduction_of reduction A.kind (rows_under (A.mask array.now) (A.slots array.now)) }
@@ -41,7 +41,7 @@ pub fn reduce<A: KernelArray>(reduction: Reduction, array: &A) -> Option<A::Valu
     }
 }
 
-/// Returns the least and the greatest row of an array, if one is present.
+/// Returns the least and the greatest row of an array. Returns `None` if no row is present.
 pub fn find_extremes<A: KernelArray>(array: &A) -> Option<(A::Value, A::Value)>
     ensures least { option_map (λ pair. A.value_row pair.0) result
         ≡ best_row row_less (rows_under (A.mask array.now) (A.slots array.now)) }

@@ -1,4 +1,4 @@
-//! Faults of a line.
+//! The faults of a line.
 
 ghost use Rattle.std.specs.Prelude.{◌≡◌, IfOk, IfErr, Ok};
 ghost use Rattle.polars_arrays_bits.specs.Errors.{IsMemory};
@@ -8,25 +8,29 @@ use polars_arrays_bits::error::ComputeError;
 use std::alloc::{AllocError, AllocFailed};
 use thiserror::Error;
 
-/// The fault of a line. If there are several, it is the first of them in this order.
+/// The reason why a line is refused. If a line has several faults, the first one in the order of
+/// these variants is returned.
 #[derive(Debug, Drop, PartialEq, Eq, Error)]
 pub enum LineError {
-    /// There is no word, or the first one names no operation.
+    /// The line has no word, or the first word is not the name of an operation.
     #[error("op")]
     Op,
-    /// There is no second word, or it names no type that the operation accepts.
+    /// The line has no second word, or the second word is not the name of a type that the operation
+    /// accepts.
     #[error("type")]
     TypeName,
-    /// A later word is neither a bar nor a row of the type.
+    /// A later word is neither a bar (`|`) nor a row of the type.
     #[error("row")]
     Row,
-    /// The number of lists is not that of the operation, or their lengths are wrong.
+    /// The operation takes another number of lists, or the lists have wrong lengths.
     #[error("length")]
     Length,
-    /// A scalar or an end of a range is null, or the range has no state, or a row lies outside it.
+    /// A scalar or an end of a range is null; the first end of the range is greater than the last;
+    /// the range has more than a million numbers; or a present row lies outside the range.
     #[error("range")]
     Range,
-    /// An allocation failed. This may come before a later fault of the line is found.
+    /// An allocation failed. This may be returned for a line that has a fault later in the order or
+    /// in the line.
     #[error("memory")]
     Memory,
 }
@@ -47,8 +51,8 @@ impl<T: Drop> From<AllocFailed<T>> for LineError {
     }
 }
 
-/// Converts the result of a call whose only error, by its contract, is a failed allocation. So
-/// `Unsupported` and `KeyOutOfRange` never become `LineError::Memory`.
+/// Converts the result of a call that can only fail with `Memory`, as its contract says. Other
+/// errors can't occur, so `Unsupported` and `KeyOutOfRange` never become `LineError::Memory`.
 pub fn or_memory<X>(answer: Result<X, ComputeError>) -> Result<X, LineError>
     requires { IfErr answer IsMemory }
     ensures answered { IfOk result (λ x. answer ≡ Ok x) }

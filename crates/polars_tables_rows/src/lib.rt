@@ -1,4 +1,5 @@
-//! Words of lines and their rows: reading them into arrays, and writing them.
+//! Parses the lists of rows in a line into arrays, and formats arrays as text. Also the reasons for
+//! refusing a line.
 #![tactic(auto)]
 
 pub mod fault;

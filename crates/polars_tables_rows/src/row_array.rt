@@ -1,4 +1,4 @@
-//! Requirements of the line language on a kind of array.
+//! The kinds of arrays that rows of a line are parsed into.
 
 ghost use Rattle.std.specs.Prelude.{◌≡◌, ◌<◌, ℕ, List, Result, Some, length, map, option_map};
 ghost use Rattle.std.specs.Prelude.{vec_len, MatchResult};
@@ -25,19 +25,19 @@ use std::alloc::Global;
 use std::fmt::Display;
 use std::str::FromStr;
 
-/// A kind of array that a line can name. Words are read as its values, and values are written as
-/// words.
+/// A kind of array that rows of a line are parsed into. Its rows can be formatted as text again.
 pub trait RowArray: Array + Sized + Drop {
-    /// The type of the values of its rows.
+    /// The type of a present row's value.
     type Value: FromStr<Err: Drop> + Display + Copy + Default;
 
-    // The type of its rows.
+    // The type of the array's rows in a line.
     ghost kind: { RowType };
 
-    // The row of a value.
+    // The row that has a given value.
     ghost value_row: { Self.Value → Row };
 
-    /// Creates an array of values. A row is null if its bit is not set. The error is `Memory`.
+    /// Creates an array of values. Row `i` is null if bit `i` of `present` is 0. The error is
+    /// `Memory`.
     fn from_values(
         alloc: Global,
         values: Vec<Self::Value>,
@@ -49,7 +49,7 @@ pub trait RowArray: Array + Sized + Drop {
             ≡ masked present (map value_row values.items))
             IsMemory };
 
-    /// Returns the number of rows, null or not.
+    /// Returns the number of rows, including null rows.
     fn count(&self) -> usize
         ensures rows { result ≡ length (rows_under (Self.mask self.now) (Self.slots self.now)) }
         ensures slots { result ≡ length (Self.slots self.now) };
@@ -60,12 +60,12 @@ pub trait RowArray: Array + Sized + Drop {
         ensures { row_from value_row result
             ≡ row (rows_under (Self.mask self.now) (Self.slots self.now)) i };
 
-    // Parsing a word gives the value that the word denotes.
+    // Parsing a word gives the value that the word denotes, and fails if it denotes none.
     ghost parse_law: { (word : List ℕ) (r : Result Self.Value Self.Value.Err)
         → Self.Value.from_str_gives word r
         → option_map value_row (result_ok r) ≡ value_of kind word };
 
-    // A value is printed as its word.
+    // Formatting a value gives its word.
     ghost shown_law: { (x : Self.Value) → Self.Value.Display.output x
         ≡ Some (row_word (value_row x)) };
 }

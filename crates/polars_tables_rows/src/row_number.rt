@@ -1,4 +1,4 @@
-//! Number types that a line can name.
+//! The number types that a line can name.
 
 ghost use Rattle.std.specs.Prelude.{◌≡◌, ℕ, List, Result, Some, option_map, refl};
 ghost use Rattle.std.specs.Int.{w8, w16, w32, w64};
@@ -17,19 +17,19 @@ use polars_arrays_numbers::native_type::NativeType;
 use std::fmt::Display;
 use std::str::FromStr;
 
-/// A number type that a line can name.
+/// A number type that a line can name, such as `i8`.
 pub trait RowNumber: NativeType + FromStr<Err: Drop> + Display + Default {
-    // The type of rows of these numbers.
+    // The type of rows that have these numbers.
     ghost kind: { RowType };
 
-    // Parsing a word gives the number that the word denotes.
+    // Parsing a word gives the number that the word denotes, and fails if it denotes none.
     ghost number_law: { (word : List ℕ) (r : Result Self Self.Err) → Self.from_str_gives word r
         → option_map (λ x. Int (Self.value x)) (result_ok r) ≡ value_of kind word };
 
     // A number is printed as its word.
     ghost shown_law: { (x : Self) → Self.Display.output x ≡ Some (row_word (Int (Self.value x))) };
 
-    // Rows of the type have the least number and the width of this type.
+    // The row type has the least number and the width of this number type.
     ghost least_law: { least_in kind ≡ Self.low };
 
     ghost width_law: { width_of kind ≡ bit_len Self.width };

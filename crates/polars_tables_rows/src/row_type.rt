@@ -1,11 +1,11 @@
-//! The types of rows.
+//! The types of rows that a line can name.
 
 ghost use Rattle.std.specs.Prelude.{◌≡◌};
 ghost use Rattle.polars_tables_rows.specs.Types.{row_type_of};
 
 use crate::tables::find;
 
-/// A type of rows of a line: signed or unsigned numbers of some width, or truth values.
+/// A type of rows in a line: signed or unsigned numbers of 8 to 64 bits, or truth values.
 #[derive(Clone, Copy, Debug, PartialEq, Eq)]
 pub enum RowType {
     I8,
@@ -19,7 +19,7 @@ pub enum RowType {
     Boolean,
 }
 
-/// The types by name.
+/// The types with their names in a line.
 const ROW_TYPES: [(&str, RowType); 9] = [
     ("i8", RowType::I8),
     ("i16", RowType::I16),
@@ -33,7 +33,7 @@ const ROW_TYPES: [(&str, RowType); 9] = [
 ];
 
 impl RowType {
-    /// Returns the type of a name.
+    /// Returns the type with this name, or `None` if there is no such type.
     pub fn from_name(name: &str) -> Option<RowType>
         ensures { result ≡ row_type_of name.now }
     {

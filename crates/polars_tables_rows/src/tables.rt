@@ -1,11 +1,11 @@
-//! Tables of names.
+//! Tables in which values are looked up by name.
 
 ghost use Rattle.std.specs.Prelude.{◌≡◌, map};
 ghost use Rattle.std.specs.Str.{bytes_eq};
 ghost use Rattle.polars_tables_rows.specs.Tables.{find};
 
-/// Returns whether two texts are equal. It is a call of its own, so that a loop over texts of other
-/// lengths keeps them in registers.
+/// Returns whether two texts are equal. A separate function, so that a loop that calls it seldom
+/// can keep its texts in registers.
 #[inline(never)]
 fn are_equal(left: &str, right: &str) -> bool
     ensures { result ≡ bytes_eq left.now right.now }
@@ -13,7 +13,7 @@ fn are_equal(left: &str, right: &str) -> bool
     left == right
 }
 
-/// Returns whether two texts are equal. Texts of different lengths are not read.
+/// Returns whether two texts are equal. Does not read texts of different lengths.
 #[inline(always)]
 #[tactic(auto, using(crate::proofs::Lengths::apart))]
 pub(crate) fn is_same(left: &str, right: &str) -> bool
@@ -22,7 +22,7 @@ pub(crate) fn is_same(left: &str, right: &str) -> bool
     left.len() == right.len() && are_equal(left, right)
 }
 
-/// Looks up a name in a table, and returns the value of the first row that has it.
+/// Returns the value of the first entry of a table that has the name, or `None` if no entry has it.
 pub fn find<T: Copy>(table: &[(&str, T)], name: &str) -> Option<T>
     ensures { result ≡ find (map (λ line. (line.0.now, line.1)) table.now) name.now }
 {

@@ -1,4 +1,4 @@
-//! Words of a line, and the arrays of their rows.
+//! Splits a text into words, and parses lists of rows into arrays.
 
 ghost use Rattle.std.specs.Prelude.{◌≡◌, ◌∷◌, ◌<◌, ◌≤◌, [], Some, None, length, map, vec_len};
 ghost use Rattle.std.specs.Prelude.{option_map, is_some, IfOk, IfErr, IfSome, MatchOption};
@@ -14,8 +14,8 @@ use crate::tables::is_same;
 use polars_arrays_bits::builder::BitmapBuilder;
 use std::alloc::Global;
 
-/// Returns the first word of a text and the text after it, or `None` if the text has no word. Words
-/// are separated by spaces.
+/// Returns the first word of a text and the rest of the text after this word. Returns `None` if the
+/// text has no word. Words are separated by one or more spaces.
 pub fn next_word(text: &str) -> Option<(&str, &str)>
     ensures word { MatchOption result (words_of text.now ≡ [])
         (λ pair. words_of text.now ≡ pair.0.now ∷ words_of pair.1.now) }
@@ -34,21 +34,22 @@ pub fn next_word(text: &str) -> Option<(&str, &str)>
     Some((rest, ""))
 }
 
-/// Returns whether a word is a bar, which separates two lists of rows.
+/// Returns whether a word is a bar (`|`), which separates two lists of rows.
 fn is_bar(word: &str) -> bool
     ensures { result ≡ is_bar word.now }
 {
     is_same(word, "|")
 }
 
-/// Parses a word as a value.
+/// Parses a word as a value. Returns `None` if the word is not a value of the type.
 fn parse_value<A: RowArray>(word: &str) -> Option<A::Value>
     ensures { option_map A.value_row result ≡ value_of A.kind word.now }
 {
     word.parse().ok()
 }
 
-/// Parses a word as a row: `Some(None)` is null, and `None` is no row.
+/// Parses a word as a row. Returns `Some(None)` for `null`, and `None` if the word is not a row of
+/// the type.
 fn parse_row<A: RowArray>(word: &str) -> Option<Option<A::Value>>
     ensures { option_map (row_from A.value_row) result ≡ row_of A.kind word.now }
 {
@@ -58,7 +59,8 @@ fn parse_row<A: RowArray>(word: &str) -> Option<Option<A::Value>>
     parse_value::<A>(word).map(Some)
 }
 
-/// Returns the value to store for a row. For null it is arbitrary; no result depends on it.
+/// Returns the value to store for a row. For null this is the default value, on which no result
+/// depends.
 fn stored_value<V: Copy + Default>(row: Option<V>) -> V
     ensures { IfSome row (λ value. result ≡ value) }
 {
@@ -68,7 +70,8 @@ fn stored_value<V: Copy + Default>(row: Option<V>) -> V
     }
 }
 
-/// Creates the array of rows that were read. A row is null if its bit is not set.
+/// Creates the array of the parsed rows. Row `i` is null if bit `i` of `present` is 0. The error is
+/// `Memory`.
 fn make_array<A: RowArray>(
     alloc: Global,
     values: Vec<A::Value>,
@@ -83,11 +86,12 @@ fn make_array<A: RowArray>(
     or_memory(A::from_values(alloc, values, present.freeze()))
 }
 
-/// The rows that a list has room for at first, so that a short one never grows.
+/// The initial capacity of a list in rows, so that a short list never grows.
 const ROOM: usize = 16;
 
-/// Returns the array of the first list of a text, and the text after the bar that ends the list, if
-/// there is one.
+/// Parses the first list of rows in a text. Returns its array, and the rest of the text after the
+/// bar that ends the list, or `None` if no bar ends it. The error is `Row` if a word of the list is
+/// not a row of the type, or `Memory`.
 fn parse_list<'a, A: RowArray>(
     alloc: Global,
     text: &'a str,
@@ -118,7 +122,7 @@ fn parse_list<'a, A: RowArray>(
     Ok((array, None))
 }
 
-/// Returns whether every word of a text is a bar or a row of the type.
+/// Returns whether each word of a text is a bar or a row of the type.
 fn are_rows<A: RowArray>(text: &str) -> bool
     ensures { result ≡ is_some (lists_of A.kind (words_of text.now)) }
 {
@@ -132,8 +136,9 @@ fn are_rows<A: RowArray>(text: &str) -> bool
     true
 }
 
-/// Returns the arrays of the lists of rows of a text, which are separated by bars. If there are
-/// more than `most`, the fault is `Length`, provided that every further word is a bar or a row.
+/// Parses all lists of rows in a text, which are separated by bars. The error is `Row` if a word is
+/// neither a bar nor a row of the type, and otherwise `Length` if there are more than `most` lists.
+/// It is `Memory` if memory runs out first.
 pub fn parse_lists<A: RowArray>(alloc: Global, most: usize, text: &str) -> Result<Vec<A>, LineError>
     ensures lists { IfOk result (λ lists. lists_of A.kind (words_of text.now)
         ≡ Some (map (λ a. rows_under (A.mask a) (A.slots a)) lists.items)) }

@@ -1,4 +1,4 @@
-//! Rows of arrays written as words.
+//! Formats the rows of an array as text.
 
 ghost use Rattle.std.specs.Prelude.{◌≡◌, ◌++◌, ◌<◌, length, IfOk, OnOk};
 ghost use Rattle.std.specs.String.{string_bytes};
@@ -8,7 +8,7 @@ ghost use Rattle.polars_tables_rows.specs.Written.{row_word, row_words};
 use crate::row_array::RowArray;
 use std::alloc::{AllocError, Global};
 
-/// Appends the word of row `i` to a text.
+/// Appends row `i` to a text: its value, or `null`. The error is that memory ran out.
 fn push_row<A: RowArray>(text: &mut String, array: &A, i: usize) -> Result<(), AllocError>
     requires { i < length (A.slots array.now) }
     ensures { OnOk result
@@ -21,10 +21,11 @@ fn push_row<A: RowArray>(text: &mut String, array: &A, i: usize) -> Result<(), A
     }
 }
 
-/// The bytes that a text of rows has room for at first, so that a short one never grows.
+/// The initial capacity of a text of rows in bytes, so that a short text never grows.
 const ROOM: usize = 64;
 
-/// Returns the rows of an array as words, separated by one space.
+/// Formats the rows of an array as text: values and `null`, separated by single spaces. The error
+/// is that memory ran out.
 pub fn write_rows<A: RowArray>(alloc: Global, array: &A) -> Result<String, AllocError>
     ensures { IfOk result
         (λ text. string_bytes text

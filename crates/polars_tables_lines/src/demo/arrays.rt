@@ -1,4 +1,4 @@
-//! The arrays of the demo, made of parts. Each is in a box.
+//! Makes the arrays of the demo from their parts. Each array is returned in a box.
 
 ghost use Rattle.std.specs.Prelude.{IfOk, IfSome};
 ghost use Rattle.std.specs.List.{All};
@@ -22,7 +22,8 @@ use polars_arrays_views::binary_view::BinaryViewArray;
 use polars_arrays_views::view::View;
 use std::alloc::Global;
 
-// Creates a validity, or `None` if all rows are present.
+// Creates a validity: row `i` is present if `present[i]` is true. Returns `None` if `present` is
+// `None`, so that all rows are present.
 fn validity(alloc: Global, present: Option<&[bool]>) -> Result<Option<Bitmap>, Fault> {
     match present {
         Some(present) => Ok(Some(Bitmap::from_bools(alloc, present)?)),
@@ -30,7 +31,7 @@ fn validity(alloc: Global, present: Option<&[bool]>) -> Result<Option<Bitmap>, F
     }
 }
 
-// Puts an array in a box.
+// Moves an array into a new box.
 fn boxed(alloc: Global, array: AnyArray) -> Result<Box<AnyArray>, Fault>
     requires { IsGood array }
     ensures { IfOk result (λ boxed. IsGood boxed.value) }
@@ -38,12 +39,12 @@ fn boxed(alloc: Global, array: AnyArray) -> Result<Box<AnyArray>, Fault>
     Ok(Box::new(alloc, array)?)
 }
 
-// Creates a buffer of these elements.
+// Creates a buffer of a copy of these elements.
 fn buffer<T: Copy>(alloc: Global, elements: &[T]) -> Result<Buffer<T>, Fault> {
     Ok(Buffer::from_vec(Vec::from_slice(alloc, elements)?))
 }
 
-/// Creates an array of numbers.
+/// Creates an array of numbers without nulls.
 pub fn numbers(alloc: Global, values: &[i32]) -> Result<Box<AnyArray>, Fault>
     ensures { IfOk result (λ array. IsGood array.value) }
 {
@@ -58,7 +59,7 @@ pub fn nulls(alloc: Global, len: usize) -> Result<Box<AnyArray>, Fault>
     boxed(alloc, AnyArray::Null(NullArray::new(len)))
 }
 
-// Creates offsets and a validity.
+// Creates a buffer of offsets, and a validity.
 fn row_parts(
     alloc: Global,
     offsets: &[i32],
@@ -69,7 +70,8 @@ fn row_parts(
     Ok((offsets, validity))
 }
 
-/// Creates an array of texts: text `i` has the bytes from end `i` up to end `i + 1`.
+/// Creates an array of texts: text `i` has the bytes from offset `ends[i]` up to offset
+/// `ends[i + 1]`, which is excluded. A row is null if it is false in `present`.
 pub fn texts(
     alloc: Global,
     ends: &[i32],
@@ -84,7 +86,8 @@ pub fn texts(
     boxed(alloc, AnyArray::Utf8(array))
 }
 
-/// Creates an array of lists: list `i` has the items from offset `i` up to offset `i + 1`.
+/// Creates an array of lists: list `i` has the items from offset `i` up to offset `i + 1`, which is
+/// excluded. A row is null if it is false in `present`.
 pub fn lists(
     alloc: Global,
     offsets: &[i32],
@@ -106,7 +109,7 @@ pub fn lists(
     }
 }
 
-/// Creates an array of empty lists.
+/// Creates an array of empty lists. A row is null if it is false in `present`.
 pub fn empty_lists(alloc: Global, present: &[bool]) -> Result<Box<AnyArray>, Fault>
     ensures { IfOk result (λ array. IsGood array.value) }
 {
@@ -116,7 +119,7 @@ pub fn empty_lists(alloc: Global, present: &[bool]) -> Result<Box<AnyArray>, Fau
     boxed(alloc, AnyArray::FixedSizeList(array))
 }
 
-/// Creates a dictionary array of keys and entries. A key that is not present is null.
+/// Creates a dictionary array of keys and entries. A row is null if it is false in `present`.
 pub fn entries(
     alloc: Global,
     keys: &[u32],
@@ -138,21 +141,22 @@ pub fn entries(
     }
 }
 
-// Creates an array of keys. A key that is not present is null.
+// Creates an array of keys. A row is null if it is false in `present`.
 fn entry_keys(alloc: Global, keys: &[u32], present: &[bool]) -> Result<PrimitiveArray<u32>, Fault> {
     let keys = buffer(alloc, keys)?;
     let validity = validity(alloc, Some(present))?;
     Ok(PrimitiveArray::try_new(keys, validity)?)
 }
 
-// Creates a list of one buffer of these bytes.
+// Creates a vector of one buffer, which has these bytes.
 fn one_buffer(alloc: Global, bytes: &[u8]) -> Result<Vec<Buffer<u8>>, Fault> {
     let mut buffers = Vec::new(alloc);
     buffers.push(buffer(alloc, bytes)?)?;
     Ok(buffers)
 }
 
-/// Creates an array of byte strings in views. Long ones lie in one buffer.
+/// Creates an array of byte strings from their views. Strings of more than 12 bytes lie in a single
+/// buffer, which has `bytes`.
 pub fn strings(alloc: Global, views: &[View], bytes: &[u8]) -> Result<Box<AnyArray>, Fault>
     ensures { IfOk result (λ array. IsGood array.value) }
 {
@@ -162,7 +166,7 @@ pub fn strings(alloc: Global, views: &[View], bytes: &[u8]) -> Result<Box<AnyArr
     boxed(alloc, AnyArray::BinaryView(array))
 }
 
-// Adds a column and its field.
+// Appends a column to `columns`, and its name and type to `fields`.
 fn push_column(
     alloc: Global,
     fields: &mut Vec<Field>,
@@ -181,8 +185,8 @@ fn push_column(
     Ok(())
 }
 
-/// Creates an array of structs. The first field is named `a`, and the second one, if there is one,
-/// `b`.
+/// Creates an array of structs without nulls. The first field is named `a`. If there is a second
+/// array, its field is named `b`.
 pub fn structs(
     alloc: Global,
     first: Box<AnyArray>,

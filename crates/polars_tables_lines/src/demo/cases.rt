@@ -1,4 +1,4 @@
-//! The cases of the demo: one side of each, made of parts.
+//! The arrays that the demo compares. Each function makes one side of a pair.
 
 ghost use Rattle.std.specs.Prelude.{IfOk};
 ghost use Rattle.polars_arrays_nested.specs.GoodParts.{IsGood};
@@ -9,14 +9,14 @@ use polars_arrays_nested::any_array::AnyArray;
 use polars_arrays_views::view::View;
 use std::alloc::Global;
 
-/// Creates structs {a: i32}.
+/// Creates an array of structs with the field `a: i32`.
 pub fn one_field(alloc: Global, a: &[i32]) -> Result<Box<AnyArray>, Fault>
     ensures { IfOk result (λ array. IsGood array.value) }
 {
     structs(alloc, numbers(alloc, a)?, None)
 }
 
-/// Creates structs {a: i32, b: i32}.
+/// Creates an array of structs with the fields `a: i32` and `b: i32`.
 pub fn two_fields(alloc: Global, a: &[i32], b: &[i32]) -> Result<Box<AnyArray>, Fault>
     ensures { IfOk result (λ array. IsGood array.value) }
 {
@@ -24,7 +24,7 @@ pub fn two_fields(alloc: Global, a: &[i32], b: &[i32]) -> Result<Box<AnyArray>, 
     structs(alloc, first, Some(numbers(alloc, b)?))
 }
 
-/// Creates three lists of numbers, the last one null.
+/// Creates an array of three lists of numbers. The last list is null.
 pub fn number_lists(alloc: Global, offsets: &[i32], items: &[i32]) -> Result<Box<AnyArray>, Fault>
     ensures { IfOk result (λ array. IsGood array.value) }
 {
@@ -36,14 +36,15 @@ pub fn number_lists(alloc: Global, offsets: &[i32], items: &[i32]) -> Result<Box
     )
 }
 
-/// Creates lists of nulls.
+/// Creates an array of lists of nulls. `items` is the number of nulls in all lists.
 pub fn null_lists(alloc: Global, offsets: &[i32], items: usize) -> Result<Box<AnyArray>, Fault>
     ensures { IfOk result (λ array. IsGood array.value) }
 {
     lists(alloc, offsets, None, nulls(alloc, items)?)
 }
 
-/// Creates a dictionary array of two letters: an entry, a null and an entry.
+/// Creates a dictionary array of three rows: an entry, a null and an entry. The two entries are the
+/// characters of `letters`.
 pub fn letters(alloc: Global, keys: &[u32], letters: &str) -> Result<Box<AnyArray>, Fault>
     ensures { IfOk result (λ array. IsGood array.value) }
 {
@@ -51,7 +52,7 @@ pub fn letters(alloc: Global, keys: &[u32], letters: &str) -> Result<Box<AnyArra
     entries(alloc, keys, &[true, false, true], texts)
 }
 
-/// Creates the strings `a` and `abcdefghijkl`, each in its view.
+/// Creates an array of the byte strings `a` and `abcdefghijkl`. Each lies in its view.
 pub fn short_strings(alloc: Global) -> Result<Box<AnyArray>, Fault>
     ensures { IfOk result (λ array. IsGood array.value) }
 {
@@ -62,17 +63,18 @@ pub fn short_strings(alloc: Global) -> Result<Box<AnyArray>, Fault>
     )
 }
 
-/// Creates the string `a` and a zero byte, in its view, and `abcdefghijklm`, in a buffer.
+/// Creates an array of two byte strings: `a` with a zero byte after it, which lies in its view, and
+/// `abcdefghijklm`, which lies in a buffer.
 pub fn long_strings(alloc: Global) -> Result<Box<AnyArray>, Fault>
     ensures { IfOk result (λ array. IsGood array.value) }
 {
-    // length, first four bytes, index of the buffer, offset in it
+    // length, prefix, index of the buffer, offset in the buffer
     let long = View::new([13, 0, 0, 0, b'a', b'b', b'c', b'd', 0, 0, 0, 0, 0, 0, 0, 0]);
     strings(alloc, &[View::of_short(b"a\0"), long], b"abcdefghijklm")
 }
 
-/// Creates a list of two structs {a: i32, b: Utf8}, the second perhaps without a text, and an empty
-/// list.
+/// Creates an array of a list of two structs `{a: i32, b: Utf8}`, and an empty list. `present` says
+/// which of the two texts `b` are not null.
 pub fn struct_lists(alloc: Global, present: &[bool]) -> Result<Box<AnyArray>, Fault>
     ensures { IfOk result (λ array. IsGood array.value) }
 {

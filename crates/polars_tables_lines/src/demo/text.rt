@@ -1,4 +1,4 @@
-//! The text of the demo: for each case which rows of two arrays are the same, and the number of
+//! The text of the demo: for each pair of arrays, which rows are equal, and the number of
 //! comparisons of leaves.
 
 ghost use Rattle.std.specs.Prelude.{IfOk};
@@ -16,7 +16,7 @@ use polars_arrays_numbers::steps::Steps;
 use polars_compare_nested::kernels::array_tot_eq_missing_kernel_counted;
 use std::alloc::{AllocError, Global};
 
-// Adds for each row whether it is the same, and then the number of comparisons.
+// Appends for each row whether the two sides are equal, and then the number of comparisons.
 fn push_bits(text: &mut String, same: &Bitmap, seen: u64) -> Result<(), Fault> {
     for i in 0..same.len() {
         if i > 0 {
@@ -28,8 +28,8 @@ fn push_bits(text: &mut String, same: &Bitmap, seen: u64) -> Result<(), Fault> {
     Ok(())
 }
 
-// Compares two arrays, and adds for each row whether it is the same, and then the number of
-// comparisons.
+// Compares two arrays. Appends for each row whether the two sides are equal, and then the number of
+// comparisons. The error is `Columns` if the arrays differ in type or length, or `Memory`.
 fn push_same(
     alloc: Global,
     text: &mut String,
@@ -49,7 +49,8 @@ fn push_same(
     pushed
 }
 
-// Adds the name of a case and its result, given the arrays or the errors of making them.
+// Appends the name of a pair of arrays and the result of comparing them. `left` and `right` may be
+// errors of making the arrays; the first error is then returned.
 fn push_answer(
     alloc: Global,
     text: &mut String,
@@ -66,7 +67,7 @@ fn push_answer(
     push_same(alloc, text, &left, &right)
 }
 
-// Adds the error of a case, if it has one. A failed allocation is returned instead.
+// Appends the error of a comparison, if there is one. If it is `Memory`, it is returned instead.
 fn push_refusal(text: &mut String, answer: Result<(), Fault>) -> Result<(), AllocError> {
     match answer {
         Ok(()) => Ok(()),
@@ -75,7 +76,7 @@ fn push_refusal(text: &mut String, answer: Result<(), Fault>) -> Result<(), Allo
     }
 }
 
-// Adds the line of a case.
+// Appends the line of a pair of arrays. The error is that memory ran out.
 fn push_case(
     alloc: Global,
     text: &mut String,
@@ -91,7 +92,7 @@ fn push_case(
     text.push('\n')
 }
 
-// Adds the lines of the cases with structs and lists.
+// Appends the lines of the pairs of structs and of lists.
 fn push_lists(alloc: Global, text: &mut String) -> Result<(), AllocError> {
     push_case(
         alloc,
@@ -124,7 +125,7 @@ fn push_lists(alloc: Global, text: &mut String) -> Result<(), AllocError> {
     )
 }
 
-// Adds the lines of the other cases.
+// Appends the lines of the other pairs.
 fn push_others(alloc: Global, text: &mut String) -> Result<(), AllocError> {
     push_case(
         alloc,
@@ -156,8 +157,8 @@ fn push_others(alloc: Global, text: &mut String) -> Result<(), AllocError> {
     )
 }
 
-/// Compares eight pairs of small nested arrays. Returns a line for each that says which rows are
-/// the same, null equal to null alone, and how many leaves were compared.
+/// Returns the text of the demo. Compares eight pairs of small nested arrays. The line of a pair
+/// says which rows are equal and how many leaves were compared. Null is equal only to null.
 pub fn demo_text(alloc: Global) -> Result<String, AllocError> {
     let mut text = String::new(alloc);
     push_lists(alloc, &mut text)?;
