@@ -19,7 +19,8 @@ use std::alloc::Global;
 use std::marker::Model;
 
 /// A list of truth values, packed into 64-bit words in the Arrow layout: the first value is the
-/// lowest bit. The bits can't be written. Clones of a shared bitmap use the same words (`share`).
+/// lowest bit. The bits can't be written. Clones of a shared bitmap use the same words (see
+/// `share`).
 #[derive(Drop)]
 pub struct Bitmap {
     // bits before `at` and from `at + len` on are arbitrary

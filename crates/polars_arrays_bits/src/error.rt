@@ -54,8 +54,7 @@ pub enum ArrayError {
     /// The bytes of row `row` are not UTF-8.
     #[error("row {row} is not UTF-8")]
     NotUtf8 { row: usize },
-    /// The key of row `row` is negative or not below the number of entries, though the row is
-    /// present.
+    /// The key of row `row` is present, and is negative or not below the number of entries.
     #[error("key {row} is out of range")]
     Key { row: usize },
 }

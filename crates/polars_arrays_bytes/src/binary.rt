@@ -53,13 +53,12 @@ impl<O: Offset> Model for BinaryArray<O> {
 }
 
 impl<O: Offset> BinaryArray<O> {
-    /// Creates an array of byte strings: row `i` has the bytes from offset `i` up to offset
-    /// `i + 1`, which is excluded. The first offset need not be 0. The errors, in the order of the
-    /// checks, are
+    /// Creates an array of byte strings: row `i` is `values[offsets[i]..offsets[i + 1]]`. The first
+    /// offset need not be 0. The errors, in the order of the checks, are
     /// - `Length`, if the validity does not have one bit per row (there is one row less than there
     ///   are offsets, and no row without offsets),
     /// - `Offsets` with the first row for which `0 <= offsets[i] <= offsets[i + 1] <= values.len()`
-    ///   does not hold; with row 0, if there are no offsets, or if the only one is not in
+    ///   does not hold; it is row 0 if there are no offsets, or if the only one is not in
     ///   `0..=values.len()`.
     ///
     /// The offsets of null rows are checked too.

@@ -49,8 +49,8 @@ impl Model for FixedSizeBinaryArray {
 
 impl FixedSizeBinaryArray {
     /// Creates an array of `len` byte strings of `size` bytes each, which follow one another in
-    /// `values`. The error is `Length`: the validity does not have one bit per string, or `values`
-    /// does not have `size * len` bytes.
+    /// `values`. The error is `Length` if the validity does not have one bit per string, or if
+    /// `values` does not have `size * len` bytes.
     pub fn try_new(
         size: usize,
         len: usize,
@@ -209,8 +209,8 @@ pub(crate) fn string_at(values: &[u8], size: usize, i: usize) -> &[u8]
     &values[start..start + size]
 }
 
-// Slices the bytes in place: only those of the `n` strings from string `at` on remain. Each string
-// has `size` bytes.
+// Slices the bytes in place: only the bytes of the `n` strings from string `at` on remain. Each
+// string has `size` bytes.
 fn keep_strings(values: &mut Buffer<u8>, size: usize, at: usize, n: usize)
     requires { size * at + size * n ≤ length values.old.items }
     ensures { values.new

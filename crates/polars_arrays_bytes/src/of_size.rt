@@ -14,8 +14,8 @@ use polars_arrays_flat::byte_rows::ByteRows;
 use polars_arrays_flat::mask::Mask;
 use std::alloc::Global;
 
-/// A borrowed array whose byte strings have `SIZE` bytes each. The compiler makes loops for that
-/// size.
+/// A borrowed array whose byte strings have `SIZE` bytes each. Loops over the strings are compiled
+/// for this size.
 #[derive(Drop)]
 pub struct OfSize<'a, const SIZE: usize> {
     /// The array.

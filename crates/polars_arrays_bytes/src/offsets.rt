@@ -130,8 +130,7 @@ pub(crate) fn string_on<'a, O: Offset>(
     (&values[from..], to - from)
 }
 
-/// Slices the offsets in place: only those of the `n` rows from row `at` on remain, `n + 1`
-/// offsets.
+/// Slices the offsets in place: only the `n + 1` offsets of the `n` rows from row `at` on remain.
 pub fn keep_rows<O: Offset>(offsets: &mut Buffer<O>, at: usize, n: usize)
     requires { at + n < length offsets.old.items }
     ensures { offsets.new

@@ -54,10 +54,9 @@ impl<O: Offset> Model for Utf8Array<O> {
 }
 
 impl<O: Offset> Utf8Array<O> {
-    /// Creates an array of texts: row `i` has the bytes from offset `i` up to offset `i + 1`, which
-    /// is excluded. The errors are those of `BinaryArray::try_new`, and after these checks
-    /// `NotUtf8` with the first row whose bytes, taken alone, are not UTF-8. Null rows are checked
-    /// too.
+    /// Creates an array of texts: row `i` is the UTF-8 in `values[offsets[i]..offsets[i + 1]]`. The
+    /// errors are those of `BinaryArray::try_new`, and after these checks `NotUtf8` with the first
+    /// row whose bytes, taken alone, are not UTF-8. Null rows are checked too.
     pub fn try_new(
         offsets: Buffer<O>,
         values: Buffer<u8>,

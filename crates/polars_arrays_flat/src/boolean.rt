@@ -42,8 +42,8 @@ impl Model for BooleanArray {
 }
 
 impl BooleanArray {
-    /// Creates an array of stored values and a validity. The error is `Length`, which says that the
-    /// validity does not have one bit per value.
+    /// Creates an array of stored values and a validity. The error is `Length` if the validity does
+    /// not have one bit per value.
     pub fn try_new(values: Bitmap, validity: Option<Bitmap>) -> Result<BooleanArray, ArrayError>
         ensures made { OkIff result (HasBits (length values) validity)
             (record { values = values; validity = validity }) }

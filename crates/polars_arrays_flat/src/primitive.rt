@@ -94,8 +94,8 @@ impl<T: Copy> PrimitiveArray<T> {
 }
 
 impl<T: NativeType> PrimitiveArray<T> {
-    /// Creates an array of stored values and a validity. The error is `Length`, which says that the
-    /// validity does not have one bit per value.
+    /// Creates an array of stored values and a validity. The error is `Length` if the validity does
+    /// not have one bit per value.
     pub fn try_new(
         values: Buffer<T>,
         validity: Option<Bitmap>,

@@ -34,7 +34,7 @@ pub fn is_present(validity: Option<&Bitmap>, i: usize) -> bool
 }
 
 /// Returns the number of masked rows, which is 0 without a validity. If the stored rows are byte
-/// strings, these are the null rows.
+/// strings, this is the number of null rows.
 #[tactic(auto, using(crate::proofs::NullCounts::nulls_counted))]
 pub fn null_count(validity: &Option<Bitmap>) -> usize
     ensures masked { result ≡ masked_count validity.now }

@@ -1,4 +1,4 @@
-//! The keys of an array of a dictionary's entries.
+//! The keys of dictionary arrays.
 
 ghost use Rattle.std.specs.Option.{MatchOption, option_copied};
 ghost use Rattle.std.specs.Prelude.{◌≡◌, ◌↔◌, ◌+◌, ◌<◌, ◌≤◌, ℕ, Bool, List, Some, IsTrue};
@@ -103,8 +103,8 @@ impl DictKeys {
         each_type!(self, keys => entry_of(keys.values(), i))
     }
 
-    /// Returns the first row whose key is negative, or not below `n`, though the key is present.
-    /// `n` is the number of entries. Returns `None` if there is no such row.
+    /// Returns the first row whose key is present, and is negative or not below `n`, the number of
+    /// entries. Returns `None` if there is no such row.
     pub fn first_bad_key(&self, n: usize) -> Option<usize>
         ensures { MatchOption result (NameEntries n (key_validity self.now) (key_places self.now))
             (IsFirstBadKey n (key_validity self.now) (key_places self.now)) }
@@ -150,8 +150,8 @@ fn entry_of<K: DictionaryKey>(keys: &[K], i: usize) -> usize
     keys[i].to_entry().unwrap_or(0)
 }
 
-// Returns the first row whose key is negative, or not below `n`, though the key is present. `n` is
-// the number of entries. Returns `None` if there is no such row.
+// Returns the first row whose key is present, and is negative or not below `n`, the number of
+// entries. Returns `None` if there is no such row.
 fn first_bad<K: DictionaryKey>(keys: &PrimitiveArray<K>, n: usize) -> Option<usize>
     ensures { MatchOption result (NameEntries n keys.now.validity (places K.value keys.now.values))
         (IsFirstBadKey n keys.now.validity (places K.value keys.now.values)) }

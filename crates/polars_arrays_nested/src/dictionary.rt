@@ -1,4 +1,4 @@
-//! Arrays of keys to the entries of a dictionary.
+//! Dictionary arrays: keys and the entries that they name.
 
 ghost use Rattle.std.specs.Prelude.{◌≡◌, ◌<◌, ◌+◌, ◌≤◌, ℕ, true, IfOk, IfErr, refl, MatchResult};
 ghost use Rattle.std.specs.Result.{OkIff};
@@ -32,8 +32,8 @@ use polars_arrays_flat::array::Array;
 use polars_arrays_flat::mask::Mask;
 use std::alloc::Global;
 
-/// An array of keys, with an optional validity, and of the entries that the keys are indices of. A
-/// row is the entry of its key. It is null if its key is masked or its entry is null.
+/// A dictionary array: keys, with an optional validity, and entries. The key of a row is the index
+/// of its entry. A row is null if its key is masked or its entry is null.
 #[cycle(arrays)]
 #[derive(Drop)]
 pub struct DictionaryArray {
@@ -42,9 +42,10 @@ pub struct DictionaryArray {
 }
 
 impl DictionaryArray {
-    /// Creates an array of keys and of the entries that the keys are indices of. The error is `Key`
-    /// with the first row whose key is negative, or not below the number of entries, though the key
-    /// is present. The key of a masked row may be any number.
+    /// Creates a dictionary array. The key of a row is the index of its entry in `values`: the keys
+    /// 1, 0, 1 and the entries `x`, `y` make the rows `y`, `x`, `y`. The error is `Key` with the
+    /// first row whose key is present, and is negative or not below the number of entries. The key
+    /// of a masked row may be any number.
     #[tactic(auto, using(crate::proofs::Faults::faults))]
     pub fn try_new(keys: DictKeys, values: Box<AnyArray>) -> Result<DictionaryArray, ArrayError>
         requires { IsGood values.value }

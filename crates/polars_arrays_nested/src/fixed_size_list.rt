@@ -44,8 +44,8 @@ pub struct FixedSizeListArray {
 
 impl FixedSizeListArray {
     /// Creates an array of `len` lists of `width` items each, which follow one another in `values`.
-    /// The error is `Length`: the validity does not have one bit per list, or `values` does not
-    /// have `width * len` rows.
+    /// The error is `Length` if the validity does not have one bit per list, or if `values` does
+    /// not have `width * len` rows.
     pub fn try_new(
         width: usize,
         len: usize,

@@ -22,7 +22,8 @@ ghost use Rattle.polars_arrays_nested.specs.declared.fixed_size_list.FixedSizeLi
 ghost use Rattle.polars_arrays_nested.specs.declared.list.ListArray.{ListArray};
 ghost use Rattle.polars_arrays_nested.specs.declared.struct_array.StructArray.{StructArray};
 
-/// States that a window has as many leaf slots as two adjacent windows that it consists of.
+/// States that two adjacent windows together have as many leaf slots as the window of all their
+/// rows.
 #[tactic(auto, using(crate::proofs::LeafSlots::leaf_slots))]
 pub fn law_leaves()
     ensures { LeavesAddUp }

@@ -40,12 +40,13 @@ pub struct ListArray {
 }
 
 impl ListArray {
-    /// Creates an array of lists: row `i` has the items from offset `i` up to offset `i + 1`, which
-    /// is excluded. The first offset need not be 0. The errors, in the order of the checks, are
+    /// Creates an array of lists: row `i` has the rows `offsets[i]..offsets[i + 1]` of `values` as
+    /// its items. For example, the offsets 0, 2, 2 make a list of two items and an empty list. The
+    /// first offset need not be 0. The errors, in the order of the checks, are
     /// - `Length`, if the validity does not have one bit per row (there is one row less than there
     ///   are offsets, and no row without offsets),
     /// - `Offsets` with the first row for which `0 <= offsets[i] <= offsets[i + 1] <= values.len()`
-    ///   does not hold; with row 0, if there are no offsets, or if the only one is not in
+    ///   does not hold; it is row 0 if there are no offsets, or if the only one is not in
     ///   `0..=values.len()`.
     ///
     /// The offsets of null rows are checked too.
@@ -82,8 +83,7 @@ impl ListArray {
         }
     }
 
-    /// Returns the offsets. List `i` has the items from offset `i` up to offset `i + 1`, which is
-    /// excluded.
+    /// Returns the offsets. List `i` has the items `offsets[i]..offsets[i + 1]`.
     pub fn offsets(&self) -> &ListOffsets
         ensures { result.now ≡ list_offsets self.now }
     {

@@ -70,8 +70,8 @@ impl ListOffsets {
         }
     }
 
-    /// Slices the offsets in place: only those of the `n` lists from list `at` on remain, `n + 1`
-    /// offsets. No offset is moved.
+    /// Slices the offsets in place: only the `n + 1` offsets of the `n` lists from list `at` on
+    /// remain. No offset is moved.
     #[tactic(auto, using(crate::proofs::Places::places_of))]
     pub fn slice(&mut self, at: usize, n: usize)
         requires { at + n < length (list_places self.old) }

@@ -75,8 +75,8 @@ pub(crate) fn has_entry(array: &DictionaryArray, i: usize) -> bool
     is_present(keys.validity(), i) && is_there(array.values(), array.key_value(i))
 }
 
-// A list of `n` truth values for the keys from key `at` on: is the key present, and its entry too?
-// `entries` is the mask of the entries.
+// A list of truth values for the `n` keys from key `at` on. A value is true if the key and its
+// entry are both present. `entries` is the mask of the entries.
 #[derive(Drop)]
 struct NamedEntries<'m, 'a> {
     keys: &'m DictKeys,

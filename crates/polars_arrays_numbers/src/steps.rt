@@ -11,8 +11,8 @@ enum Past {
     After(Snapshot<usize>, Snapshot<Past>),
 }
 
-/// A counter. In contracts its value is the exact count, which has no upper bound. At run time
-/// `seen` returns the count up to `u64::MAX`.
+/// A counter. In contracts its value is the exact count, which has no upper bound. At run time,
+/// `seen` returns this count, or `u64::MAX` if it is greater.
 #[derive(Drop)]
 pub struct Steps {
     seen: u64,

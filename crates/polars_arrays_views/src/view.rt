@@ -19,6 +19,9 @@ use std::simd::prelude::*;
 /// prefix (its first four bytes), bytes 8 to 11 the index of its buffer, and bytes 12 to 15 its
 /// offset in that buffer. Numbers are little-endian and unsigned. Any sixteen bytes make a view;
 /// `is_good` checks it.
+///
+/// For example, the view of the row `abc` is
+/// `[3, 0, 0, 0, b'a', b'b', b'c', 0, 0, 0, 0, 0, 0, 0, 0, 0]`.
 #[derive(Clone, Copy, PartialEq, Eq, Debug)]
 pub struct View {
     bytes: [u8; 16],
@@ -136,9 +139,8 @@ impl View {
         &buffer.as_slice()[at..at + self.len()]
     }
 
-    /// Returns whether the view is good. That of a row of at most 12 bytes is good if it is padded
-    /// with zeros. That of a longer row is good if the row lies in one of `buffers` and begins with
-    /// the view's prefix.
+    /// Returns whether the view is good. A row of at most 12 bytes must be padded with zeros. A
+    /// longer row must lie in one of `buffers` and begin with the view's prefix.
     pub fn is_good(&self, buffers: &[Buffer<u8>]) -> bool
         ensures { IsTrue result ↔ GoodView (contents buffers.now) self.now }
     {

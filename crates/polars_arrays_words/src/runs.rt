@@ -1,4 +1,4 @@
-//! Checks of runs of bits: are all bits of the run true?
+//! Checks whether all bits of a run are true.
 
 ghost use Rattle.std.specs.Prelude.{◌≡◌, ◌+◌, ◌^◌, ◌<◌, ◌≤◌};
 ghost use Rattle.std.specs.List.{list_all};

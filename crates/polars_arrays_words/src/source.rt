@@ -21,7 +21,7 @@ pub trait BitSource {
     /// Returns whether reading a word is cheap. If so, `collect_words` reads four words per
     /// iteration.
     // A short loop takes up to 40 percent longer if the jump at its end is badly aligned in the
-    // processor's cache. Four words per iteration make this matter less.
+    // processor's cache. That is why four cheap words are read per iteration.
     #[inline(always)]
     fn is_cheap(&self) -> bool {
         false

@@ -24,7 +24,8 @@ use polars_tables_rows::words::{next_word, parse_lists};
 use std::alloc::Global;
 
 // Runs an operation on numbers of the type `T`. The text has the lists of rows. The error is
-// `TypeName` if the operation does not accept numbers, or that of the lists or of the operation.
+// `TypeName` if the operation does not accept numbers, or an error of the lists or of the
+// operation.
 fn answer_numbers<T: LineNumber>(
     alloc: Global,
     operation: Operation,
@@ -47,7 +48,7 @@ fn answer_numbers<T: LineNumber>(
 }
 
 // Runs an operation on truth values. The text has the lists of rows. The error is `TypeName` if the
-// operation does not accept truth values, or that of the lists or of the operation.
+// operation does not accept truth values, or an error of the lists or of the operation.
 fn answer_booleans(alloc: Global, operation: Operation, text: &str) -> Result<String, LineError>
     ensures { Tells string_bytes (rows_meaning operation Boolean (words_of text.now)) result }
 {
@@ -66,7 +67,7 @@ fn answer_booleans(alloc: Global, operation: Operation, text: &str) -> Result<St
 }
 
 // Runs an operation on rows of a type. The text has the lists of rows. The error is `TypeName` if
-// the operation does not accept the type, or that of the lists or of the operation.
+// the operation does not accept the type, or an error of the lists or of the operation.
 fn answer_rows(
     alloc: Global,
     operation: Operation,
@@ -89,8 +90,8 @@ fn answer_rows(
 }
 
 // Runs an operation on the text after its name: the name of a type, and lists of rows. The error is
-// `TypeName` if there is no such type or the operation does not accept it, or that of the lists or
-// of the operation.
+// `TypeName` if there is no such type or the operation does not accept it, or an error of the lists
+// or of the operation.
 fn answer_typed(alloc: Global, operation: Operation, text: &str) -> Result<String, LineError>
     ensures { Tells string_bytes (typed_meaning operation (words_of text.now)) result }
 {

@@ -109,7 +109,8 @@ fn read_input<R: Read>(alloc: Global, reader: &mut R) -> Result<Vec<u8>, RunErro
     Err(RunError::Read)
 }
 
-/// The output for the lines so far: the text of their results, and their numbers.
+/// The output for the lines so far: the text of their results, and the numbers of lines and of
+/// refused lines.
 #[derive(Drop)]
 struct Answers {
     text: String,

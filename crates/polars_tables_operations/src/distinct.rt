@@ -1,5 +1,5 @@
-//! Formats the distinct numbers of a state as text. A state has collected the distinct rows of a
-//! list whose numbers lie in a range.
+//! Formats the distinct rows of a state as text. A state collects the distinct rows of a list whose
+//! numbers lie in a range.
 
 ghost use Rattle.std.specs.Prelude.{◌≡◌, IfOk};
 ghost use Rattle.std.specs.String.{string_bytes};

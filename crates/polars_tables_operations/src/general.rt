@@ -30,7 +30,8 @@ use crate::reducing::{find_extremes, reduce};
 use polars_tables_rows::fault::LineError;
 use std::alloc::{AllocError, Global};
 
-// Compares two lists row by row. The error is `Length` if their lengths differ, or `Memory`.
+// Compares two lists row by row, and returns the results as text. The error is `Length` if their
+// lengths differ, or `Memory`.
 #[tactic(auto, using(crate::proofs::Answered::answered))]
 fn answer_rows<A: KernelArray>(
     alloc: Global,
@@ -48,8 +49,9 @@ fn answer_rows<A: KernelArray>(
     write_made(alloc, compare_rows(alloc, comparison, left, right))
 }
 
-// Compares each row of a list with a scalar, which is the only row of the list `scalars`. The error
-// is `Length` if `scalars` does not have one row, `Range` if this row is null, or `Memory`.
+// Compares each row of a list with a scalar, and returns the results as text. The scalar is the
+// only row of the list `scalars`. The error is `Length` if `scalars` does not have one row, `Range`
+// if this row is null, or `Memory`.
 #[tactic(auto, using(crate::proofs::Answered::answered))]
 fn answer_scalar<A: KernelArray>(
     alloc: Global,
@@ -70,8 +72,9 @@ fn answer_scalar<A: KernelArray>(
     write_made(alloc, compare_scalar(alloc, comparison, rows, &scalar))
 }
 
-// Compares the first of two lists with the second one: row by row, or with the scalar in the second
-// list. The error is `Length` if there are not two lists, or that of the comparison.
+// Compares the first of two lists with the second one, and returns the results as text. `operand`
+// says whether the second list has a row for each row or one scalar. The error is `Length` if there
+// are not two lists, or the error of the comparison.
 fn answer_comparison<A: KernelArray>(
     alloc: Global,
     comparison: ComparisonKind,
@@ -91,8 +94,8 @@ fn answer_comparison<A: KernelArray>(
     }
 }
 
-// Counts the bits of one kind in each row of a single list. The error is `Length` if there is not
-// exactly one list, or `Memory`.
+// Counts the bits of one kind in each row of a single list, and returns the counts as text. The
+// error is `Length` if there is not exactly one list, or `Memory`.
 #[tactic(auto, using(crate::proofs::Answered::answered))]
 fn answer_count<A: KernelArray>(
     alloc: Global,
@@ -119,8 +122,8 @@ fn write_value<A: KernelArray>(alloc: Global, found: Option<A::Value>) -> Result
     }
 }
 
-// Reduces the present rows of a single list to one row. Without a present row the result is `none`.
-// The error is `Length` if there is not exactly one list, or `Memory`.
+// Reduces the present rows of a single list to one row, and returns it as text. Without a present
+// row the result is `none`. The error is `Length` if there is not exactly one list, or `Memory`.
 fn answer_reduction<A: KernelArray>(
     alloc: Global,
     reduction: Reduction,

@@ -27,12 +27,13 @@ pub trait KernelArray: RowArray
     + TotalOrdKernel<Scalar = <Self as RowArray>::Value>
     + BitwiseKernel<Scalar = <Self as RowArray>::Value>
     + MinMaxKernel<Scalar = <Self as RowArray>::Value> {
-    /// States that the bits of a value determine its row. Does nothing at run time.
+    /// States that the bits of a value, read as a row again, give the row of the value. Does
+    /// nothing at run time.
     fn law_bits(value: Self::Value)
         ensures { bits_row Self.kind (row_bits (width_of Self.kind) (Self.value_row value))
             ≡ Self.value_row value };
 
-    // The stored rows of an array are values, also those under nulls.
+    // Values are never null. The stored rows of an array are values, also those under nulls.
     ghost values_law: { AreValues Self.value_row };
 
     ghost stored_law: { (a : Self) → StoresValues Self.value_row (Self.slots a) };

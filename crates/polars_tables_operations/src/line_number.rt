@@ -23,7 +23,8 @@ pub trait LineNumber: RowNumber
     // The number type is not that of truth values.
     ghost number_kind_law: { is_boolean Self.kind ≡ false };
 
-    /// States that the bits of a number determine it. Does nothing at run time.
+    /// States that the bits of a number, read as a number again, give the same number. Does nothing
+    /// at run time.
     final fn law_number_bits(self)
         ensures { bits_row Self.kind (number_bits (width_of Self.kind) (Self.value self))
             ≡ Int (Self.value self) }

@@ -99,8 +99,8 @@ fn scalar_of<T: LineNumber>(scalars: PrimitiveArray<T>) -> Result<T, LineError>
     lent_scalar(&scalars)
 }
 
-// Applies a function to each number of a single list. The error is `Length` if there is not exactly
-// one list, or `Memory`.
+// Applies a function to each number of a single list, and returns the results as text. The error is
+// `Length` if there is not exactly one list, or `Memory`.
 #[tactic(auto, using(crate::proofs::Answered::answered))]
 fn answer_change<T: LineNumber>(
     alloc: Global,
@@ -114,8 +114,8 @@ fn answer_change<T: LineNumber>(
     write_made(alloc, change_rows(alloc, change, rows))
 }
 
-// Calculates with the numbers of two lists, row by row. The error is `Length` if their lengths
-// differ, or `Memory`.
+// Calculates with the numbers of two lists, row by row, and returns the results as text. The error
+// is `Length` if their lengths differ, or `Memory`.
 #[tactic(auto, using(crate::proofs::Answered::answered))]
 fn answer_rows<T: LineNumber>(
     alloc: Global,
@@ -134,9 +134,9 @@ fn answer_rows<T: LineNumber>(
     write_made(alloc, calculate_rows(alloc, calculation, left, right))
 }
 
-// Calculates with each number of a list on the left, and a scalar on the right, which is the only
-// row of `scalars`. The error is `Length` if `scalars` does not have one row, `Range` if this row
-// is null, or `Memory`.
+// Calculates with each number of a list on the left, and a scalar on the right, and returns the
+// results as text. The scalar is the only row of `scalars`. The error is `Length` if `scalars` does
+// not have one row, `Range` if this row is null, or `Memory`.
 #[tactic(auto, using(crate::proofs::Answered::answered))]
 fn answer_scalar<T: LineNumber>(
     alloc: Global,
@@ -152,8 +152,9 @@ fn answer_scalar<T: LineNumber>(
     write_made(alloc, calculate_scalar(alloc, calculation, rows, scalar))
 }
 
-// Calculates with the first of two lists and the second one: row by row, or with the scalar in the
-// second list. The error is `Length` if there are not two lists, or that of the calculation.
+// Calculates with the first of two lists and the second one, and returns the results as text.
+// `operand` says whether the second list has a number for each row or one scalar. The error is
+// `Length` if there are not two lists, or the error of the calculation.
 fn answer_calculation<T: LineNumber>(
     alloc: Global,
     calculation: Calculation,
@@ -171,9 +172,10 @@ fn answer_calculation<T: LineNumber>(
     }
 }
 
-// Calculates with a scalar on the left, and each number of a list on the right. The scalar is the
-// only row of the first list; the numbers are in the second list. The error is `Length` if there
-// are not two lists or the first does not have one row, `Range` if the scalar is null, or `Memory`.
+// Calculates with a scalar on the left, and each number of a list on the right, and returns the
+// results as text. The scalar is the only row of the first list; the numbers are in the second
+// list. The error is `Length` if there are not two lists or the first does not have one row,
+// `Range` if the scalar is null, or `Memory`.
 #[tactic(auto, using(crate::proofs::Answered::answered))]
 fn answer_from_scalar<T: LineNumber>(
     alloc: Global,
@@ -218,7 +220,7 @@ fn answer_sum<T: LineNumber>(
 
 // Creates a state of the distinct rows that were seen in a range, and appends the rows of the
 // second list. The first list has the two ends of the range. The error is `Length` if there are not
-// two lists, or that of `state_of`.
+// two lists, or an error of `state_of`.
 fn state_of_lists<T: LineNumber>(
     alloc: Global,
     lists: Vec<PrimitiveArray<T>>,

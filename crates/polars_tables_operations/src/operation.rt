@@ -31,11 +31,17 @@ pub enum Operand {
 /// A group of bits in a row that can be counted.
 #[derive(Clone, Copy, Debug, PartialEq, Eq)]
 pub enum BitCount {
+    /// The 1 bits.
     Ones,
+    /// The 0 bits.
     Zeros,
+    /// The 1 bits above the highest 0 bit.
     LeadingOnes,
+    /// The 0 bits above the highest 1 bit.
     LeadingZeros,
+    /// The 1 bits below the lowest 0 bit.
     TrailingOnes,
+    /// The 0 bits below the lowest 1 bit.
     TrailingZeros,
 }
 
@@ -54,29 +60,38 @@ pub enum Reduction {
     Greatest,
 }
 
-/// A function of one number.
+/// A function of one number, whose result is wrapped to the type.
 #[derive(Clone, Copy, Debug, PartialEq, Eq)]
 pub enum Change {
+    /// The absolute value.
     Magnitude,
+    /// The number with the opposite sign.
     Negation,
 }
 
-/// A calculation with two numbers that can't be swapped.
+/// A calculation with two numbers that depends on their order. The result is wrapped to the type.
 #[derive(Clone, Copy, Debug, PartialEq, Eq)]
 pub enum OrderedCalculation {
+    /// The left number minus the right one.
     Subtract,
+    /// The quotient, rounded down.
     FloorDivide,
+    /// The quotient, rounded toward 0.
     TruncatedDivide,
+    /// The remainder of the quotient that is rounded down.
     Modulo,
-    /// Division that rounds down, like `FloorDivide`.
+    /// The quotient, rounded down: another name of `FloorDivide`.
     LegacyDivide,
 }
 
-/// A calculation with two numbers.
+/// A calculation with two numbers, whose result is wrapped to the type.
 #[derive(Clone, Copy, Debug, PartialEq, Eq)]
 pub enum Calculation {
+    /// The sum.
     Add,
+    /// The product.
     Multiply,
+    /// A calculation that depends on the order of the two numbers.
     Ordered(OrderedCalculation),
 }
 

@@ -29,8 +29,8 @@ pub enum LineError {
     /// the range has more than a million numbers; or a present row lies outside the range.
     #[error("range")]
     Range,
-    /// An allocation failed. This may be returned for a line that has a fault later in the order or
-    /// in the line.
+    /// An allocation failed. This may be returned in place of a fault that would have been found
+    /// later.
     #[error("memory")]
     Memory,
 }

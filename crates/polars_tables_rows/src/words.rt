@@ -16,6 +16,8 @@ use std::alloc::Global;
 
 /// Returns the first word of a text and the rest of the text after this word. Returns `None` if the
 /// text has no word. Words are separated by one or more spaces.
+///
+/// For example, the first word of `add i8 1` is `add`, and the rest is `i8 1`.
 pub fn next_word(text: &str) -> Option<(&str, &str)>
     ensures word { MatchOption result (words_of text.now ≡ [])
         (λ pair. words_of text.now ≡ pair.0.now ∷ words_of pair.1.now) }
@@ -139,6 +141,8 @@ fn are_rows<A: RowArray>(text: &str) -> bool
 /// Parses all lists of rows in a text, which are separated by bars. The error is `Row` if a word is
 /// neither a bar nor a row of the type, and otherwise `Length` if there are more than `most` lists.
 /// It is `Memory` if memory runs out first.
+///
+/// For example, the text `1 null | 2` has two lists, one of two rows and one of one row.
 pub fn parse_lists<A: RowArray>(alloc: Global, most: usize, text: &str) -> Result<Vec<A>, LineError>
     ensures lists { IfOk result (λ lists. lists_of A.kind (words_of text.now)
         ≡ Some (map (λ a. rows_under (A.mask a) (A.slots a)) lists.items)) }

@@ -82,9 +82,9 @@ impl BitMask<'_> {
     }
 
     /// Returns a bit for each of the first `n` blocks of `width` bits, true if all bits of the
-    /// block are true. The first block begins at the first bit. A block of no bits counts as all
-    /// true. For the widths 2, 4, 8 and 16 whole words are folded at once, for others a block at a
-    /// time. The error is `Memory`.
+    /// block are true. The first block begins at the first bit. For example, the bits 1, 1, 0, 1 in
+    /// blocks of two give 1, 0. A block of no bits gives 1. For the widths 2, 4, 8 and 16 whole
+    /// words are folded at once, for others a block at a time. The error is `Memory`.
     pub fn all_in_blocks(
         &self,
         alloc: Global,

@@ -70,8 +70,8 @@ fn row_parts(
     Ok((offsets, validity))
 }
 
-/// Creates an array of texts: text `i` has the bytes from offset `ends[i]` up to offset
-/// `ends[i + 1]`, which is excluded. A row is null if it is false in `present`.
+/// Creates an array of texts: text `i` is `bytes[ends[i]..ends[i + 1]]`. A row is null if it is
+/// false in `present`.
 pub fn texts(
     alloc: Global,
     ends: &[i32],
@@ -86,8 +86,8 @@ pub fn texts(
     boxed(alloc, AnyArray::Utf8(array))
 }
 
-/// Creates an array of lists: list `i` has the items from offset `i` up to offset `i + 1`, which is
-/// excluded. A row is null if it is false in `present`.
+/// Creates an array of lists: list `i` has the items `offsets[i]..offsets[i + 1]`. A row is null if
+/// it is false in `present`.
 pub fn lists(
     alloc: Global,
     offsets: &[i32],

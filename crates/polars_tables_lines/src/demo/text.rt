@@ -67,7 +67,8 @@ fn push_answer(
     push_same(alloc, text, &left, &right)
 }
 
-// Appends the error of a comparison, if there is one. If it is `Memory`, it is returned instead.
+// Appends the error of a comparison, if there is one. If the error is `Memory`, appends nothing and
+// returns it as `AllocError`.
 fn push_refusal(text: &mut String, answer: Result<(), Fault>) -> Result<(), AllocError> {
     match answer {
         Ok(()) => Ok(()),
