@@ -135,7 +135,7 @@ impl BitmapBuilder {
               room = self.old.room - n;
             } }
     {
-        // Has no effect at run time. The proof learns from it that places fit in 64 bits.
+        // Has no effect at run time. The proof learns from it that indices fit in 64 bits.
         let _len = items.len();
         let (words, by) = items.packed();
         match width {

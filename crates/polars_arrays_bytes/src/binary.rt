@@ -1,4 +1,4 @@
-//! Arrays of byte strings between offsets.
+//! Arrays of byte strings, with offsets that say where each string lies.
 
 ghost use Rattle.std.specs.Prelude.{◌≡◌, ◌+◌, ◌<◌, ◌≤◌, [], length, slice_index_or, IsOk};
 ghost use Rattle.std.specs.Prelude.{MatchResult, IfOk, IfErr, ⊤, refl};

@@ -1,4 +1,4 @@
-//! Arrays of byte strings and texts between offsets, and arrays of byte strings of one fixed size.
+//! Arrays of byte strings and of texts with offsets, and arrays of byte strings of one fixed size.
 #![tactic(auto)]
 
 pub mod binary;

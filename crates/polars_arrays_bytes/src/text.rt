@@ -1,4 +1,4 @@
-//! Arrays of texts between offsets.
+//! Arrays of texts, with offsets that say where each text lies.
 
 ghost use Rattle.std.specs.Prelude.{◌≡◌, ◌+◌, ◌<◌, ◌≤◌, ◌↔◌, Some, [], length, slice_index_or};
 ghost use Rattle.std.specs.Prelude.{IsTrue, IsOk, MatchResult, IfOk, IfErr, ⊤, refl};

@@ -29,7 +29,7 @@ pub trait Array {
     // mask defines which of the stored rows are replaced by null.
     ghost mask: { Self → Option (List Bool) };
 
-    // The number of rows that are null by the validity.
+    // The number of rows that the validity masks or that are stored as null.
     ghost nulls: { Self → ℕ };
 
     // Holds if two arrays have the same type.
@@ -57,8 +57,8 @@ pub trait Array {
         ensures mask { MatchResult result (λ present. present ≡ mask self.now) IsMemory }
         ensures bits { HasBits (length (slots self.now)) (mask self.now) };
 
-    /// Returns the number of rows that are null by the validity. A present key of a dictionary is
-    /// not counted, even if its entry is null.
+    /// Returns the number of rows that the validity masks or that are stored as null. A present key
+    /// of a dictionary is not counted, even if its entry is null.
     fn null_count(&self) -> usize
         ensures nulls { result ≡ nulls self.now }
         ensures rows { good self.now → result

@@ -50,7 +50,7 @@ pub fn beginnings_less(left: &[u8], n: usize, right: &[u8], m: usize) -> bool
 }
 
 /// Returns a block that begins with `bytes`. A string that is compared with many others is copied
-/// to a block first, so that `beginnings_equal` and `beginnings_less` can read it as one.
+/// to a block first, so that `beginnings_equal` and `beginnings_less` can compare it as one block.
 pub fn block_of(bytes: &[u8]) -> [u8; BLOCK_BYTES]
     requires { length bytes.now ≤ 16 }
     ensures { take (length bytes.now) result ≡ bytes.now }

@@ -5,8 +5,8 @@ ghost use Rattle.std.specs.Int.{w32, w64, from_le_bytes, to_le_bytes};
 ghost use Rattle.std.specs.Str.{bytes_eq};
 ghost use Rattle.polars_arrays_flat.specs.Validity.{window};
 
-/// Returns whether two byte strings are equal. If the shorter one has 4 to 16 bytes, its bytes are
-/// compared as two pairs of numbers, even if the lengths differ. A branch on equal lengths would
+/// Returns whether two byte strings are equal. If the shorter one has 4 to 16 bytes, its first and
+/// last bytes are compared as numbers, even if the lengths differ: a branch on equal lengths would
 /// often be mispredicted.
 #[inline(always)]
 pub fn bytes_equal(left: &[u8], right: &[u8]) -> bool

@@ -52,8 +52,8 @@ fn long_less(left: &[u8], right: &[u8], common: usize) -> bool
     pair_less(p, q, left.len(), right.len())
 }
 
-// Returns a big-endian number of eight bytes: the first four and the last four of the first `n`
-// bytes.
+// Returns the first four and the last four of the first `n` bytes, together as a big-endian number
+// of eight bytes.
 #[inline(always)]
 fn ends(bytes: &[u8], n: usize) -> u64
     requires some { 4 ≤ n }
@@ -66,8 +66,8 @@ fn ends(bytes: &[u8], n: usize) -> u64
     u64::from(four_at(bytes, 0)) * 4294967296 + u64::from(four_at(bytes, n - 4))
 }
 
-// Returns a big-endian number of the first, the middle and the last of the first `n` bytes, which
-// are at most three. Returns 0 if `n` is 0.
+// Returns the first, the middle and the last of the first `n` bytes as a big-endian number. `n` is
+// at most 3. Returns 0 if `n` is 0.
 #[inline(always)]
 fn few(bytes: &[u8], n: usize) -> u32
     requires few { n < 4 }

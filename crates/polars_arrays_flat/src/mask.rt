@@ -86,8 +86,8 @@ impl<'a> Mask<'a> {
         }
     }
 
-    /// Returns whether the mask has no bits, so that all rows are present. A mask whose bits are
-    /// all 1 gives `false`.
+    /// Returns whether the mask has no bits, so that all rows are present. Returns `false` for a
+    /// mask whose bits are all 1.
     pub fn is_all(&self) -> bool
         ensures { IsTrue result ↔ (self.now ≡ None) }
     {

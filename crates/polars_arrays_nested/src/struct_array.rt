@@ -50,9 +50,9 @@ impl StructArray {
     /// Creates an array of `len` structs from one column per field. The errors, in the order of the
     /// checks, are
     /// - `Length`, if the validity does not have one bit per row,
-    /// - `Field` with the index of the first column that does not have `len` rows or the type of
-    ///   its field. If the numbers of fields and columns differ, and the common ones fit, the index
-    ///   is the smaller of the two numbers.
+    /// - `Field` with the index of the first column that does not have `len` rows, or does not have
+    ///   the type of its field. If one of the lists `fields` and `values` is shorter, and all its
+    ///   elements fit, the index is its length.
     #[tactic(auto, using(crate::proofs::Structs::made))]
     pub fn try_new(
         fields: Vec<Field>,

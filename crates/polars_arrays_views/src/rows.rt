@@ -111,7 +111,7 @@ pub fn row_equals_bytes(left: &BinaryViewArray, i: usize, scalar: &ScalarRow) ->
     let v = left.view(i);
     let w = scalar.view();
     let size = scalar.len();
-    // depends on `scalar` alone, and so goes the same way for all rows
+    // this branch depends on `scalar` alone, so it goes the same way for all rows
     if size <= 12 {
         return w.same_head(v) & w.same_tail(v);
     }

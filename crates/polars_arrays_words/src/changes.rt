@@ -8,8 +8,10 @@ use crate::source::BitSource;
 
 /// A change of bits. The new value of a bit depends on its index and its old value.
 pub trait WordChange {
+    // The new value of the bit at each index, given its old value.
     ghost bit: { Self → ℕ → Bool → Bool };
 
+    // The number of leading words that `inner_word` can change.
     ghost inner: { Self → ℕ };
 
     /// Returns the number of leading words that `inner_word` can change.

@@ -7,6 +7,7 @@ use crate::source::BitSource;
 
 /// An operator on one truth value. `apply` applies it to each bit of a word.
 pub trait UnaryOperator: Drop {
+    // The operator on truth values.
     ghost bit: { Bool → Bool };
 
     /// Returns the word whose bits are the operator's results.
@@ -16,6 +17,7 @@ pub trait UnaryOperator: Drop {
 
 /// An operator on two truth values. `apply` applies it to the two bits at each index of two words.
 pub trait BinaryOperator: Drop {
+    // The operator on truth values.
     ghost bit: { Bool → Bool → Bool };
 
     /// Returns the word whose bits are the operator's results.
@@ -26,6 +28,7 @@ pub trait BinaryOperator: Drop {
 /// An operator on three truth values. `apply` applies it to the three bits at each index of three
 /// words.
 pub trait TernaryOperator: Drop {
+    // The operator on truth values.
     ghost bit: { Bool → Bool → Bool → Bool };
 
     /// Returns the word whose bits are the operator's results.

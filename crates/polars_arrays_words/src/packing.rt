@@ -242,7 +242,7 @@ impl<'a, V: TruthValues> BitSource for Packed<'a, V> {
     // masks.
     #[inline(always)]
     fn inner_word(&self, k: usize) -> u64 {
-        // Has no effect at run time. The proof learns from it that places fit in 64 bits.
+        // Has no effect at run time. The proof learns from it that indices fit in 64 bits.
         let _len = self.values.len();
         pack_word(self.values, WORD_BITS * k, WORD_BITS)
     }

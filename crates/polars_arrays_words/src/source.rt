@@ -9,8 +9,10 @@ use std::alloc::{AllocError, Global};
 
 /// A sequence of bits that is read in words of 64. The first bit of a word is its lowest bit.
 pub trait BitSource {
+    // The bit at each index.
     ghost bit: { Self → ℕ → Bool };
 
+    // The number of inner words.
     ghost inner: { Self → ℕ };
 
     /// Returns the number of inner words. These are the leading words that `inner_word` can read,

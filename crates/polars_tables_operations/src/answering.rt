@@ -15,7 +15,8 @@ use polars_tables_rows::row_array::RowArray;
 use polars_tables_rows::written::write_rows;
 use std::alloc::Global;
 
-// Formats the rows of a kernel's result as text. The error of the kernel must be `Memory`.
+// Formats the rows of a kernel's result as text. The error is `Memory`, and the kernel's error can
+// be no other.
 pub(crate) fn write_made<A: RowArray>(
     alloc: Global,
     made: Result<A, ComputeError>,

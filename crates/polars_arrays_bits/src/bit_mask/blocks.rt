@@ -65,7 +65,7 @@ impl BitMask<'_> {
         requires { width * n ≤ length self.now }
         ensures { MatchResult result (λ bits. bits ≡ blocks_all width n self.now) IsMemory }
     {
-        // Has no effect at run time. The proof learns from it that places fit in 64 bits.
+        // Has no effect at run time. The proof learns from it that indices fit in 64 bits.
         let _len = self.len();
         let words = self.words;
         let by = self.at;
@@ -94,7 +94,7 @@ impl BitMask<'_> {
         requires { width * n ≤ length self.now }
         ensures { MatchResult result (λ bits. bits ≡ blocks_all width n self.now) IsMemory }
     {
-        // Has no effect at run time. The proof learns from it that places fit in 64 bits.
+        // Has no effect at run time. The proof learns from it that indices fit in 64 bits.
         let _len = self.len();
         match width {
             2 => self.all_in_pairs(alloc, n),

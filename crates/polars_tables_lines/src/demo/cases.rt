@@ -73,8 +73,8 @@ pub fn long_strings(alloc: Global) -> Result<Box<AnyArray>, Fault>
     strings(alloc, &[View::of_short(b"a\0"), long], b"abcdefghijklm")
 }
 
-/// Creates an array of a list of two structs `{a: i32, b: Utf8}`, and an empty list. `present` says
-/// which of the two texts `b` are not null.
+/// Creates an array of two lists: one of two structs `{a: i32, b: Utf8}`, and an empty one.
+/// `present` says which of the two texts `b` are not null.
 pub fn struct_lists(alloc: Global, present: &[bool]) -> Result<Box<AnyArray>, Fault>
     ensures { IfOk result (λ array. IsGood array.value) }
 {
