@@ -47,7 +47,8 @@ pub fn rows_equal(
 }
 
 /// Returns whether two views have the same sixteen bytes. If the row of `v` has at most 12 bytes,
-/// the result says whether the rows are equal. For a longer row the result is only a guess.
+/// the result says whether the rows are equal. For a longer row the result is only a guess, since
+/// the buffers are not read.
 #[inline(always)]
 pub fn guess_equal(v: &View, w: &View) -> bool
     ensures { (buffers others : List (List ℕ)) → GoodView buffers v.now → GoodView others w.now

@@ -239,8 +239,9 @@ fn is_text_row(array: &BinaryViewArray, row: usize, whole: bool) -> bool
     is_text(array.value(row))
 }
 
-// Returns whether a quick check shows that the row is UTF-8: its view is ASCII, or it lies between
-// characters of a buffer that is UTF-8. `whole` says that each buffer as a whole is UTF-8.
+// Returns whether a quick check shows that the row is UTF-8: its view is ASCII, or the row begins
+// and ends between characters of a buffer that is UTF-8. `whole` says that each buffer as a whole
+// is UTF-8.
 fn shows_text(view: &View, buffers: &[Buffer<u8>], whole: bool) -> bool
     requires good { GoodView (contents buffers.now) view.now }
     requires whole { IsTrue whole → All IsUtf8 (contents buffers.now) }

@@ -202,8 +202,8 @@ impl View {
         u32::from_be_bytes([b[4], b[5], b[6], b[7]])
     }
 
-    /// Returns whether the row is less than that of `other`, byte by byte. Both rows must have at
-    /// most 12 bytes, padded with zeros.
+    /// Returns whether the row is less than the row of `other`, byte by byte. Both rows must have
+    /// at most 12 bytes, padded with zeros.
     #[inline(always)]
     pub fn inlined_less(&self, other: &View) -> bool
         requires short { view_len self.now ≤ 12 }

@@ -15,8 +15,8 @@ pub trait BitSource {
     // The number of inner words.
     ghost inner: { Self → ℕ };
 
-    /// Returns the number of inner words. These are the leading words that `inner_word` can read,
-    /// since all data that it reads lies within the source.
+    /// Returns the number of inner words. These are the leading words for which `inner_word` reads
+    /// nothing past the end of its data.
     fn inner_words(&self) -> usize
         ensures { result ≡ inner self.now };
 

@@ -218,9 +218,9 @@ fn answer_sum<T: LineNumber>(
     Ok(write_sum(alloc, &rows)?)
 }
 
-// Creates a state of the distinct rows that were seen in a range, and appends the rows of the
-// second list. The first list has the two ends of the range. The error is `Length` if there are not
-// two lists, or an error of `state_of`.
+// Creates a state that collects distinct rows with numbers in a range, and appends the rows of the
+// second list to it. The first list has the two ends of the range. The error is `Length` if there
+// are not two lists, or an error of `state_of`.
 fn state_of_lists<T: LineNumber>(
     alloc: Global,
     lists: Vec<PrimitiveArray<T>>,

@@ -39,8 +39,8 @@ fn are_ends<T: LineNumber>(first: T, last: T) -> bool
     first <= last && last - first < 1_000_000
 }
 
-// Creates a state of the distinct rows that were seen among the numbers from `first` to `last`, and
-// appends rows to it. The error is `Range` if `are_ends` is false or a present row lies outside the
+// Creates a state that collects distinct rows with numbers from `first` to `last`, and appends
+// `rows` to it. The error is `Range` if `are_ends` is false or a present row lies outside the
 // range, or `Memory`.
 fn seen_between<T: LineNumber>(
     alloc: Global,
@@ -65,9 +65,9 @@ fn seen_between<T: LineNumber>(
     Ok(state)
 }
 
-/// Creates a state of the distinct rows that were seen in a range, and appends rows to it. The list
-/// `ends` has the first and the last number of the range. The error is `Length` or `Range` if
-/// `ends` is not such a list, `Range` if a present row lies outside the range, or `Memory`.
+/// Creates a state that collects distinct rows with numbers in a range, and appends `rows` to it.
+/// The list `ends` has the first and the last number of the range. The error is `Length` or `Range`
+/// if `ends` is not such a list, `Range` if a present row lies outside the range, or `Memory`.
 pub fn state_of<T: LineNumber>(
     alloc: Global,
     ends: &PrimitiveArray<T>,
