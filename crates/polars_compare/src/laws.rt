@@ -1,7 +1,7 @@
-//! Laws of the results of comparisons, stated over the definitions of their contracts alone. A law
-//! is a function that does nothing; its clauses are what is proved. `law_tally` bounds the
-//! comparisons of any two arrays by their leaf slots, and `law_steps` says that the counter's
-//! kernel tests equality.
+//! Laws about the results of comparisons. A law is a function that does nothing at run time. Its
+//! `ensures` clauses are proved facts about the definitions that contracts use. `law_tally` bounds
+//! the number of comparisons of two arrays by their leaf slots. `law_steps` says that the counter
+//! `Steps` compares leaves by equality.
 
 ghost use Rattle.polars_compare.specs.ArrayLaws.{ArraysAreReflexive, ArraysAreSymmetric};
 ghost use Rattle.polars_compare.specs.ArrayLaws.{ArraysAreTransitive, ArraysByRows};
@@ -14,8 +14,9 @@ ghost use Rattle.polars_compare.specs.RowsLaws.{MissingByRows, RawEqualityByRows
 
 pub use polars_compare_nested::laws::{law_steps, law_tally};
 
-/// States that of two rows with an order exactly one holds: the first is less, they are equal, or
-/// it is greater. It is at most the other if it is less or equal.
+/// States that the order of rows is total. Of two numbers, two truth values or two byte strings `x`
+/// and `y`, exactly one holds: `x` is less than `y`, equal to `y`, or greater than `y`. At most
+/// means less or equal. Less is transitive.
 pub fn law_total_order()
     ensures same { SameIsEqual }
     ensures one_of_three { OneOfThree }
@@ -24,8 +25,8 @@ pub fn law_total_order()
 {}
 
 /// States that missing equality of arrays of one type and length is reflexive, symmetric and
-/// transitive, and that missing inequality is its complement. This holds of arrays of one kind by
-/// their rows, and of any two arrays.
+/// transitive, and that missing inequality is its complement. The clauses `arrays_..` say this of
+/// two arrays of any kind (`AnyArray`), and the others of two lists of rows.
 pub fn law_missing_equivalence()
     ensures reflexive { MissingIsReflexive }
     ensures symmetric { MissingIsSymmetric }
@@ -37,8 +38,9 @@ pub fn law_missing_equivalence()
     ensures arrays_complement { ArraysUnequalIsNotEqual }
 {}
 
-/// States that arrays with the same rows get the same bits, however they are stored and masked. For
-/// the raw comparisons this holds at each row that is null on neither side.
+/// States that comparisons depend only on rows, not on the way in which the rows are stored: arrays
+/// with the same rows get the same bits. For raw comparisons this holds at each index where both
+/// rows are present.
 pub fn law_rows_alone()
     ensures missing { MissingByRows }
     ensures arrays { ArraysByRows }

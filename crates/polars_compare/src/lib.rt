@@ -1,8 +1,14 @@
-//! Comparisons of the rows of two arrays, re-exported by one crate. A caller depends on this crate
-//! alone and writes `polars_compare::equality::TotalEqKernel` and
-//! `polars_compare::order::TotalOrdKernel`. The traits of `borrowed_equality` and `borrowed_order`
-//! compare rows with borrowed bytes or texts. All share the comparisons of stored rows and the join
-//! with nulls. `laws` states what holds of all results.
+//! Comparisons of rows. This crate re-exports the modules of several crates:
+//!
+//! - `equality`, `order`, `extremes`: the traits `TotalEqKernel`, `TotalOrdKernel` and
+//!   `MinMaxKernel` of arrays of one kind
+//! - `borrowed_equality`, `borrowed_order`, `borrowed_extremes`: traits with borrowed byte strings
+//!   and texts as scalars and results
+//! - `dispatch`, `leaf_kernel`: equality of two arrays of any kind, nested or not
+//! - `any_extremes`, `scalar`: the least and the greatest row of an array of any kind
+//! - `booleans`, `bytes`, `numbers`, `row_comparison`, `followed`: comparisons of stored rows
+//! - `joining`: combines the results with nulls
+//! - `laws`: laws that hold of all results
 #![tactic(auto)]
 
 pub use polars_compare_equality::{borrowed as borrowed_equality, kernel as equality};

@@ -1,4 +1,4 @@
-//! Equality of rows that are byte strings or texts with a borrowed one.
+//! Equality of the rows of an array with one borrowed byte string or text.
 
 ghost use Rattle.std.specs.Prelude.{◌≡◌, None, true, false, length, replicate, MatchResult, ⊤};
 ghost use Rattle.polars_arrays_bits.specs.Errors.{IsMemory};
@@ -15,11 +15,16 @@ use polars_compare_leaves::bytes::compare_bytes;
 use polars_compare_leaves::joining::Relation;
 use std::alloc::Global;
 
-/// Equality of the rows of an array of byte strings with a borrowed byte string, called by path
-/// beside `TotalEqKernel`. The raw kernels ignore validities; in the missing ones null is equal to
-/// null alone. All allocate: the error is `Memory`.
+/// Equality of the rows of an array of byte strings with one borrowed byte string. Each method
+/// returns a bitmap with a bit for each row. Methods without `missing` in their name don't read the
+/// validity: the bit of a null row is arbitrary. In methods with `missing`, a null is never equal
+/// to the byte string. The error is `Memory`.
+///
+/// Call these methods by path, as in `BytesEqKernel::tot_eq_kernel_broadcast(&array, Global,
+/// b"x")`, since `TotalEqKernel` has methods with the same names.
 pub trait BytesEqKernel: ByteRows + Sized {
-    /// Returns for each stored row whether it is equal to the byte string.
+    /// Returns for each row whether it is equal to the byte string. The bit of a null row is
+    /// arbitrary.
     fn tot_eq_kernel_broadcast(&self, alloc: Global, other: &[u8]) -> Result<Bitmap, ComputeError>
         ensures { MatchResult result
             (RawEquality true ⊤ (Self.mask self.now) None (Self.slots self.now)
@@ -29,7 +34,8 @@ pub trait BytesEqKernel: ByteRows + Sized {
         compare_bytes(alloc, &Equal, self, other)
     }
 
-    /// Returns for each stored row whether it differs from the byte string.
+    /// Returns for each row whether it differs from the byte string. The bit of a null row is
+    /// arbitrary.
     fn tot_ne_kernel_broadcast(&self, alloc: Global, other: &[u8]) -> Result<Bitmap, ComputeError>
         ensures { MatchResult result
             (RawEquality false ⊤ (Self.mask self.now) None (Self.slots self.now)
@@ -72,12 +78,15 @@ pub trait BytesEqKernel: ByteRows + Sized {
     }
 }
 
-/// Equality of the rows of an array of texts with a borrowed text. `TotalEqKernel` has methods of
-/// the same names, so these are called by path. Two texts are equal if their UTF-8 is. The raw
-/// kernels ignore validities; in the missing ones null is equal to null alone. All allocate: the
-/// error is `Memory`.
+/// Equality of the rows of an array of texts with one borrowed text. Two texts are equal if they
+/// have the same bytes in UTF-8. Each method returns a bitmap with a bit for each row. Methods
+/// without `missing` in their name don't read the validity: the bit of a null row is arbitrary. In
+/// methods with `missing`, a null is never equal to the text. The error is `Memory`.
+///
+/// Call these methods by path, as in `TextEqKernel::tot_eq_kernel_broadcast(&array, Global, "x")`,
+/// since `TotalEqKernel` has methods with the same names.
 pub trait TextEqKernel: ByteRows + Sized {
-    /// Returns for each stored row whether it is equal to the text.
+    /// Returns for each row whether it is equal to the text. The bit of a null row is arbitrary.
     fn tot_eq_kernel_broadcast(&self, alloc: Global, other: &str) -> Result<Bitmap, ComputeError>
         ensures { MatchResult result
             (RawEquality true ⊤ (Self.mask self.now) None (Self.slots self.now)
@@ -87,7 +96,7 @@ pub trait TextEqKernel: ByteRows + Sized {
         compare_bytes(alloc, &Equal, self, other.as_bytes())
     }
 
-    /// Returns for each stored row whether it differs from the text.
+    /// Returns for each row whether it differs from the text. The bit of a null row is arbitrary.
     fn tot_ne_kernel_broadcast(&self, alloc: Global, other: &str) -> Result<Bitmap, ComputeError>
         ensures { MatchResult result
             (RawEquality false ⊤ (Self.mask self.now) None (Self.slots self.now)

@@ -1,4 +1,4 @@
-//! Equality of arrays of byte strings between offsets and of byte strings of one size.
+//! Equality of `BinaryArray`s and of `FixedSizeBinaryArray`s.
 
 ghost use Rattle.std.specs.Prelude.{◌≡◌, ◌*◌, true, length, ⊤};
 ghost use Rattle.polars_arrays_bytes.specs.OffsetStrings.{offset_strings};
@@ -153,7 +153,8 @@ impl TotalEqKernel for FixedSizeBinaryArray {
 
 impl BytesEqKernel for FixedSizeBinaryArray {}
 
-// Has no effect at run time. The proof learns from it that strings of different sizes are unequal.
+// Does nothing at run time. Tells the proof that each array stores `size * count` bytes, from which
+// it learns that strings of different sizes are unequal.
 fn read_sizes(left: &FixedSizeBinaryArray, right: &FixedSizeBinaryArray)
     ensures left { length left.now.values ≡ left.now.size * left.now.count }
     ensures right { length right.now.values ≡ right.now.size * right.now.count }

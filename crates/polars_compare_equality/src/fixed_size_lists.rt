@@ -1,4 +1,4 @@
-//! Equality of arrays of lists of one width.
+//! Equality of arrays of lists that all have the same number of items (`FixedSizeListArray`).
 
 ghost use Rattle.std.specs.Prelude.{◌≡◌, true};
 ghost use Rattle.polars_arrays_nested.specs.GoodParts.{IsGood};
@@ -44,7 +44,8 @@ impl TotalEqKernel for FixedSizeListArray {
 
     fn tot_eq_kernel(&self, alloc: Global, other: &Self) -> Result<Bitmap, ComputeError> {
         let n = self.len();
-        // rows of different types are never equal
+        // Lists of different widths have different types, and rows of different types are never
+        // equal.
         if self.width() != other.width() {
             return Bitmap::new_zeroed(alloc, n);
         }

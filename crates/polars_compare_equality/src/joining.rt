@@ -1,4 +1,4 @@
-//! Missing equality of all kinds of array: the raw bits of stored rows, joined with the masks.
+//! Missing equality of arrays of any kind: combines the raw bits of a comparison with the masks.
 
 ghost use Rattle.std.specs.Prelude.{◌≡◌, ◌≢◌, None, length, replicate, MatchResult, ⊤};
 ghost use Rattle.polars_arrays_bits.specs.Errors.{IsMemory};
@@ -14,8 +14,9 @@ use polars_arrays_flat::mask::Mask;
 use polars_compare_leaves::joining::{Relation, join_nulls};
 use std::alloc::Global;
 
-/// Joins the raw bits of a comparison of two arrays with their masks. `relation` says what a set
-/// bit means. The error is `Memory`.
+/// Combines the raw bits of a comparison of two arrays with their masks, and returns the bits of
+/// missing equality or inequality. `relation` says which of the two was compared. The error is
+/// `Memory`.
 #[inline]
 pub(crate) fn join_rows<A: Array>(
     alloc: Global,
@@ -40,8 +41,9 @@ pub(crate) fn join_rows<A: Array>(
     join_nulls(alloc, relation, raw, &left_mask, &right_mask)
 }
 
-/// Joins the raw bits of a comparison of an array with one row that is not null with the array's
-/// mask. The error is `Memory`.
+/// Combines the raw bits of a comparison of each row with one scalar, which is not null, with the
+/// mask of the array. Returns the bits of missing equality or inequality. `relation` says which of
+/// the two was compared. The error is `Memory`.
 #[inline]
 pub(crate) fn join_scalar<A: Array>(
     alloc: Global,

@@ -1,4 +1,4 @@
-//! Equality of the rows of two arrays, raw and missing.
+//! The trait `TotalEqKernel`: equality of the rows of arrays of one kind.
 
 ghost use Rattle.std.specs.Prelude.{◌≡◌, ◌≢◌, ◌↔◌, List, Bool, Option, None, true, false, length};
 ghost use Rattle.std.specs.Prelude.{replicate, MatchResult, IsTrue, ⊤};
@@ -15,46 +15,50 @@ use polars_arrays_flat::array::Array;
 use polars_compare_leaves::joining::Relation;
 use std::alloc::Global;
 
-/// Equality of the rows of two arrays of one kind.
+/// Equality of the rows of two arrays of one kind, or of an array and a scalar (a broadcast).
 ///
-/// The raw kernels ignore validities; their bits are right where both rows are present. In the
-/// missing kernels null is equal to null alone, and all bits are right. A broadcast compares each
-/// row with one scalar, which is never null. All except `can_compare` and `can_broadcast` allocate:
-/// the error is `Memory`, and `Unsupported` for the broadcasts of a kind that has none.
+/// Each comparison returns a bitmap with a bit for each row. Methods without `missing` in their
+/// name don't combine the result with the masks: if a row is null on either side, its bit is
+/// arbitrary. In methods with `missing`, null is equal to null alone. A scalar is never null.
+///
+/// The comparisons allocate, and fail with `Memory` if memory runs out. The broadcasts of null,
+/// struct and dictionary arrays always fail with `Unsupported`.
 pub trait TotalEqKernel: Sized + Array {
-    /// The value that a broadcast compares rows with.
+    /// The type of the scalar that a broadcast compares each row with.
     type Scalar;
 
-    // Two arrays that can be compared.
+    // Condition under which two arrays can be compared.
     ghost comparable: { Self → Self → Type 0 };
 
-    // Support of broadcasts by the kind of array.
+    // True if the kind of array supports broadcasts.
     ghost broadcasts: { Bool };
 
-    // A scalar of the type that the array can be compared with.
+    // Condition under which the array can be compared with a scalar.
     ghost fits: { Self → Self.Scalar → Type 0 };
 
-    // Soundness of a scalar that holds an array, at all its levels.
+    // Condition on a scalar that is an array: it is good, with all arrays inside it.
     ghost good_scalar: { Self.Scalar → Type 0 };
 
-    // The row of a scalar.
+    // The row that a scalar stands for.
     ghost scalar_row: { Self.Scalar → Row };
 
-    /// Returns whether the two arrays can be compared: their lengths are equal, for lists and
-    /// dictionaries also their types, for lists of one width the types of their items.
+    /// Returns whether the two arrays can be compared. They need equal lengths. Lists and
+    /// dictionaries also need equal types, and lists of fixed size need items of equal types.
     fn can_compare(&self, other: &Self) -> bool
         requires good { Self.good self.now }
         requires good_other { Self.good other.now }
         ensures { IsTrue result ↔ comparable self.now other.now };
 
-    /// Returns whether a broadcast can compare the array with the scalar: for lists, whether the
-    /// scalar is an array of the items' type; for all other kinds, always.
+    /// Returns whether a broadcast may be called with the scalar. For lists, the scalar is an array
+    /// of items, and must have the type of the list's items. For all other kinds the result is
+    /// `true`, even if they don't support broadcasts.
     fn can_broadcast(&self, other: &Self::Scalar) -> bool
         requires good { Self.good self.now }
         requires good_other { good_scalar other.now }
         ensures { IsTrue result ↔ fits self.now other.now };
 
-    /// Compares the stored rows place by place. A bit is set where the rows are equal.
+    /// Returns a bit for each index `i`: 1 if row `i` of `self` is equal to row `i` of `other`. If
+    /// one of the rows is null, the bit is arbitrary.
     fn tot_eq_kernel(&self, alloc: Global, other: &Self) -> Result<Bitmap, ComputeError>
         requires good { Self.good self.now }
         requires good_other { Self.good other.now }
@@ -64,7 +68,8 @@ pub trait TotalEqKernel: Sized + Array {
             (Self.mask other.now) (Self.slots self.now) (Self.slots other.now))
             IsMemory };
 
-    /// Compares the stored rows place by place. A bit is set where the rows differ.
+    /// Returns a bit for each index `i`: 1 if row `i` of `self` differs from row `i` of `other`. If
+    /// one of the rows is null, the bit is arbitrary.
     fn tot_ne_kernel(&self, alloc: Global, other: &Self) -> Result<Bitmap, ComputeError>
         requires good { Self.good self.now }
         requires good_other { Self.good other.now }
@@ -74,7 +79,7 @@ pub trait TotalEqKernel: Sized + Array {
             (Self.mask other.now) (Self.slots self.now) (Self.slots other.now))
             IsMemory };
 
-    /// Returns for each stored row whether it is equal to the scalar.
+    /// Returns for each row whether it is equal to the scalar. The bit of a null row is arbitrary.
     fn tot_eq_kernel_broadcast(
         &self,
         alloc: Global,
@@ -87,7 +92,7 @@ pub trait TotalEqKernel: Sized + Array {
             (RawEquality true ⊤ (Self.mask self.now) None (Self.slots self.now)
             (replicate (length (Self.slots self.now)) (scalar_row other.now))) };
 
-    /// Returns for each stored row whether it differs from the scalar.
+    /// Returns for each row whether it differs from the scalar. The bit of a null row is arbitrary.
     fn tot_ne_kernel_broadcast(
         &self,
         alloc: Global,
@@ -100,7 +105,8 @@ pub trait TotalEqKernel: Sized + Array {
             (RawEquality false ⊤ (Self.mask self.now) None (Self.slots self.now)
             (replicate (length (Self.slots self.now)) (scalar_row other.now))) };
 
-    /// Returns for each place whether the rows are equal; null is equal to null alone.
+    /// Returns a bit for each index `i`: 1 if row `i` of `self` is equal to row `i` of `other`.
+    /// Null is equal to null alone.
     fn tot_eq_missing_kernel(&self, alloc: Global, other: &Self) -> Result<Bitmap, ComputeError>
         requires good { Self.good self.now }
         requires good_other { Self.good other.now }
@@ -115,7 +121,8 @@ pub trait TotalEqKernel: Sized + Array {
         join_rows(alloc, Relation::Equal, raw, self, other)
     }
 
-    /// Returns for each place whether the rows differ; null differs from all rows except null.
+    /// Returns a bit for each index `i`: 1 if row `i` of `self` differs from row `i` of `other`.
+    /// Null differs from each row that is not null.
     fn tot_ne_missing_kernel(&self, alloc: Global, other: &Self) -> Result<Bitmap, ComputeError>
         requires good { Self.good self.now }
         requires good_other { Self.good other.now }

@@ -1,4 +1,4 @@
-//! Equality of arrays of nulls.
+//! Equality of arrays whose rows are all null (`NullArray`).
 
 ghost use Rattle.std.specs.Prelude.{◌≡◌, false, ⊤};
 ghost use Rattle.polars_compare_equality.specs.SlotsLaws.{null_slots-as_long};

@@ -40,7 +40,8 @@ impl TotalEqKernel for StructArray {
 
     fn tot_eq_kernel(&self, alloc: Global, other: &Self) -> Result<Bitmap, ComputeError> {
         let n = self.len();
-        // rows of different types are never equal
+        // Structs with different fields have different types, and rows of different types are never
+        // equal.
         if !same_fields(self.fields(), other.fields()) {
             return Bitmap::new_zeroed(alloc, n);
         }

@@ -1,4 +1,4 @@
-//! Equality of arrays of views.
+//! Equality of arrays of views (`BinaryViewArray` and `Utf8ViewArray`).
 
 ghost use Rattle.std.specs.Prelude.{◌≡◌, true, length, string_bytes, ⊤};
 ghost use Rattle.polars_arrays_flat.specs.Row.{Bytes};

@@ -1,4 +1,5 @@
-//! Extremes of arrays of truth values, counted 64 rows at a time.
+//! The least and the greatest row of arrays of truth values. They follow from the numbers of
+//! present rows and of true rows, which are counted 64 rows at a time.
 
 ghost use Rattle.std.specs.Option.{option_copied};
 ghost use Rattle.std.specs.Prelude.{◌≡◌, true, count_by, length};
@@ -13,7 +14,7 @@ use polars_arrays_bits::bitmap::Bitmap;
 use polars_arrays_flat::array::Array;
 use polars_arrays_flat::boolean::BooleanArray;
 
-// Returns the number of present rows.
+// Returns the number of present rows. Without a validity all rows are present.
 #[tactic(auto, using(crate::proofs::Truths::truth_counts))]
 fn present_count(values: &Bitmap, validity: Option<&Bitmap>) -> usize
     requires { HasBits (length values.now) (option_copied validity) }
@@ -26,7 +27,7 @@ fn present_count(values: &Bitmap, validity: Option<&Bitmap>) -> usize
     }
 }
 
-// Returns the number of present rows that are true.
+// Returns the number of rows that are present and true. Without a validity all rows are present.
 #[tactic(auto, using(crate::proofs::Truths::truth_counts))]
 fn true_count(values: &Bitmap, validity: Option<&Bitmap>) -> usize
     requires { HasBits (length values.now) (option_copied validity) }

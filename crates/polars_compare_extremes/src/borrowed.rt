@@ -1,4 +1,4 @@
-//! The least and the greatest of rows that are byte strings or texts, borrowed from their array.
+//! The least and the greatest row of arrays of byte strings or texts, borrowed from the array.
 
 ghost use Rattle.std.specs.Prelude.{MatchOption};
 ghost use Rattle.polars_arrays_flat.specs.Row.{Bytes};
@@ -7,9 +7,12 @@ ghost use Rattle.polars_compare_extremes.specs.Extremes.{IsGreatest, IsLeast, No
 
 use polars_arrays_flat::byte_rows::ByteRows;
 
-/// The extremes of an array of byte strings, returned as borrowed bytes. `MinMaxKernel` has methods
-/// of the same names, so these are called by path. No row is NaN: `ignore_nan` and `propagate_nan`
-/// mean the same. Does not allocate.
+/// The least and the greatest row of an array of byte strings, as slices borrowed from the array.
+/// No byte string is a NaN, so the methods with `propagate_nan` in their name return the same as
+/// those with `ignore_nan`. No method allocates.
+///
+/// Call these methods by path, as in `BytesMinMaxKernel::min_ignore_nan_kernel(&array)`, since
+/// `MinMaxKernel` has methods with the same names.
 pub trait BytesMinMaxKernel: ByteRows {
     /// Returns the least present row, or `None` if no row is present.
     fn min_ignore_nan_kernel(&self) -> Option<&[u8]>
@@ -39,7 +42,8 @@ pub trait BytesMinMaxKernel: ByteRows {
         Some((least, greatest))
     }
 
-    /// Returns the result of `min_ignore_nan_kernel`: no row is a NaN.
+    /// Returns the least present row, or `None` if no row is present, as `min_ignore_nan_kernel`
+    /// does.
     final fn min_propagate_nan_kernel(&self) -> Option<&[u8]>
         ensures { MatchOption result
             (NonePresent (rows_under (Self.mask self.now) (Self.slots self.now)))
@@ -49,7 +53,8 @@ pub trait BytesMinMaxKernel: ByteRows {
         self.min_ignore_nan_kernel()
     }
 
-    /// Returns the result of `max_ignore_nan_kernel`: no row is a NaN.
+    /// Returns the greatest present row, or `None` if no row is present, as `max_ignore_nan_kernel`
+    /// does.
     final fn max_propagate_nan_kernel(&self) -> Option<&[u8]>
         ensures { MatchOption result
             (NonePresent (rows_under (Self.mask self.now) (Self.slots self.now)))
@@ -59,7 +64,8 @@ pub trait BytesMinMaxKernel: ByteRows {
         self.max_ignore_nan_kernel()
     }
 
-    /// Returns the result of `min_max_ignore_nan_kernel`: no row is a NaN.
+    /// Returns the least and the greatest present row, or `None` if no row is present, as
+    /// `min_max_ignore_nan_kernel` does.
     final fn min_max_propagate_nan_kernel(&self) -> Option<(&[u8], &[u8])>
         ensures { MatchOption result
             (NonePresent (rows_under (Self.mask self.now) (Self.slots self.now)))
@@ -72,9 +78,12 @@ pub trait BytesMinMaxKernel: ByteRows {
     }
 }
 
-/// The extremes of an array of texts, returned as borrowed texts. `MinMaxKernel` has methods of the
-/// same names, so these are called by path. No row is NaN: `ignore_nan` and `propagate_nan` mean
-/// the same. Does not allocate.
+/// The least and the greatest row of an array of texts, as texts borrowed from the array. Texts are
+/// ordered by their bytes in UTF-8. No text is a NaN, so the methods with `propagate_nan` in their
+/// name return the same as those with `ignore_nan`. No method allocates.
+///
+/// Call these methods by path, as in `TextMinMaxKernel::min_ignore_nan_kernel(&array)`, since
+/// `MinMaxKernel` has methods with the same names.
 pub trait TextMinMaxKernel: ByteRows {
     /// Returns the least present row, or `None` if no row is present.
     fn min_ignore_nan_kernel(&self) -> Option<&str>
@@ -104,7 +113,8 @@ pub trait TextMinMaxKernel: ByteRows {
         Some((least, greatest))
     }
 
-    /// Returns the result of `min_ignore_nan_kernel`: no row is a NaN.
+    /// Returns the least present row, or `None` if no row is present, as `min_ignore_nan_kernel`
+    /// does.
     final fn min_propagate_nan_kernel(&self) -> Option<&str>
         ensures { MatchOption result
             (NonePresent (rows_under (Self.mask self.now) (Self.slots self.now)))
@@ -114,7 +124,8 @@ pub trait TextMinMaxKernel: ByteRows {
         self.min_ignore_nan_kernel()
     }
 
-    /// Returns the result of `max_ignore_nan_kernel`: no row is a NaN.
+    /// Returns the greatest present row, or `None` if no row is present, as `max_ignore_nan_kernel`
+    /// does.
     final fn max_propagate_nan_kernel(&self) -> Option<&str>
         ensures { MatchOption result
             (NonePresent (rows_under (Self.mask self.now) (Self.slots self.now)))
@@ -124,7 +135,8 @@ pub trait TextMinMaxKernel: ByteRows {
         self.max_ignore_nan_kernel()
     }
 
-    /// Returns the result of `min_max_ignore_nan_kernel`: no row is a NaN.
+    /// Returns the least and the greatest present row, or `None` if no row is present, as
+    /// `min_max_ignore_nan_kernel` does.
     final fn min_max_propagate_nan_kernel(&self) -> Option<(&str, &str)>
         ensures { MatchOption result
             (NonePresent (rows_under (Self.mask self.now) (Self.slots self.now)))

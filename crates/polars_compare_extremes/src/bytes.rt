@@ -1,4 +1,5 @@
-//! Extremes of arrays of byte strings and of texts between offsets.
+//! The least and the greatest row of arrays of byte strings and of texts between offsets
+//! (`BinaryArray`, `Utf8Array`).
 
 use crate::borrowed::{BytesMinMaxKernel, TextMinMaxKernel};
 use crate::places::{best_place, best_string};

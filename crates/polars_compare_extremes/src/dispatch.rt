@@ -1,4 +1,4 @@
-//! The extremes of arrays of any kind.
+//! The least and the greatest row of an array of any kind (`AnyArray`).
 
 ghost use Rattle.polars_arrays_nested.specs.AnyRows.{rows};
 ghost use Rattle.polars_arrays_nested.specs.Types.{type_of};
@@ -12,7 +12,8 @@ use crate::scalar::AnyScalar;
 use polars_arrays_bits::error::ComputeError;
 use polars_arrays_nested::any_array::AnyArray;
 
-// An extreme of an array, by the function named before its kind.
+// Matches on the kind of an array, and calls the function that precedes the kind in the list. Kinds
+// that aren't in the list give the error `Unsupported`.
 macro_rules! each_extreme {
     (($any:expr, $extreme:expr), $($found:ident: $($kind:ident)+);+) => {
         match $any {
@@ -30,7 +31,9 @@ macro_rules! each_extreme {
     };
 }
 
-// Returns an extreme of an array of any kind.
+// Returns the least or the greatest present row, as `extreme` says, or `None` if no row is present.
+// Fails with `Unsupported` if the kind of the array has no extremes, as listed at
+// `dyn_array_min_ignore_nan`.
 #[tactic(auto, using(crate::proofs::ListKinds::no_extremes))]
 fn any_extreme(array: &AnyArray, extreme: Extreme) -> Result<Option<AnyScalar<'_>>, ComputeError>
     ensures { AnswersKind (type_of array.now) result
@@ -47,9 +50,10 @@ fn any_extreme(array: &AnyArray, extreme: Extreme) -> Result<Option<AnyScalar<'_
     )
 }
 
-/// Returns the least present row, borrowed, or `None` if no row is present. The error is
-/// `Unsupported`, exactly for arrays whose rows have no order: nulls, byte strings of one size, and
-/// nested arrays. Does not allocate.
+/// Returns the least present row, or `None` if no row is present. Bytes and texts are borrowed from
+/// the array. Fails with `Unsupported` if and only if the array is a `Null`, `FixedSizeBinary`,
+/// `List`, `FixedSizeList`, `Struct` or `Dictionary` array. Does not allocate. No row is a NaN; the
+/// name is that of polars.
 pub fn dyn_array_min_ignore_nan(array: &AnyArray) -> Result<Option<AnyScalar<'_>>, ComputeError>
     ensures { AnswersKind (type_of array.now) result
         (IsExtreme Extreme.Least (type_of array.now) (rows array.now)) }
@@ -57,8 +61,9 @@ pub fn dyn_array_min_ignore_nan(array: &AnyArray) -> Result<Option<AnyScalar<'_>
     any_extreme(array, Extreme::Least)
 }
 
-/// Returns the greatest present row, borrowed, or `None` if no row is present. The error is that of
-/// `dyn_array_min_ignore_nan`.
+/// Returns the greatest present row, or `None` if no row is present. Bytes and texts are borrowed
+/// from the array. Fails with `Unsupported` for the same kinds of array as
+/// `dyn_array_min_ignore_nan`. Does not allocate.
 pub fn dyn_array_max_ignore_nan(array: &AnyArray) -> Result<Option<AnyScalar<'_>>, ComputeError>
     ensures { AnswersKind (type_of array.now) result
         (IsExtreme Extreme.Greatest (type_of array.now) (rows array.now)) }
@@ -66,7 +71,8 @@ pub fn dyn_array_max_ignore_nan(array: &AnyArray) -> Result<Option<AnyScalar<'_>
     any_extreme(array, Extreme::Greatest)
 }
 
-/// Returns the result of `dyn_array_min_ignore_nan`: no row is a NaN.
+/// Returns the least present row, or `None` if no row is present. No row is a NaN, so the result
+/// and the error are those of `dyn_array_min_ignore_nan`.
 pub fn dyn_array_min_propagate_nan(array: &AnyArray) -> Result<Option<AnyScalar<'_>>, ComputeError>
     ensures { AnswersKind (type_of array.now) result
         (IsExtreme Extreme.Least (type_of array.now) (rows array.now)) }
@@ -74,7 +80,8 @@ pub fn dyn_array_min_propagate_nan(array: &AnyArray) -> Result<Option<AnyScalar<
     any_extreme(array, Extreme::Least)
 }
 
-/// Returns the result of `dyn_array_max_ignore_nan`: no row is a NaN.
+/// Returns the greatest present row, or `None` if no row is present. No row is a NaN, so the result
+/// and the error are those of `dyn_array_max_ignore_nan`.
 pub fn dyn_array_max_propagate_nan(array: &AnyArray) -> Result<Option<AnyScalar<'_>>, ComputeError>
     ensures { AnswersKind (type_of array.now) result
         (IsExtreme Extreme.Greatest (type_of array.now) (rows array.now)) }
@@ -82,8 +89,9 @@ pub fn dyn_array_max_propagate_nan(array: &AnyArray) -> Result<Option<AnyScalar<
     any_extreme(array, Extreme::Greatest)
 }
 
-/// Returns the least and the greatest present row, borrowed, or `None` if no row is present. The
-/// error is that of `dyn_array_min_ignore_nan`.
+/// Returns the least and the greatest present row, or `None` if no row is present. Bytes and texts
+/// are borrowed from the array. Fails with `Unsupported` for the same kinds of array as
+/// `dyn_array_min_ignore_nan`. Does not allocate.
 pub fn dyn_array_min_max_propagate_nan(
     array: &AnyArray,
 ) -> Result<Option<(AnyScalar<'_>, AnyScalar<'_>)>, ComputeError>

@@ -1,4 +1,4 @@
-//! Either extreme of one kind of array, chosen by an argument.
+//! The least or the greatest row of an array of one kind, chosen by an argument.
 
 ghost use Rattle.std.specs.Prelude.{length, MatchOption};
 ghost use Rattle.polars_arrays_bytes.specs.OffsetStrings.{offset_rows, row_count};
@@ -22,15 +22,15 @@ use polars_arrays_numbers::offset::Offset;
 use polars_arrays_views::binary_view::BinaryViewArray;
 use polars_arrays_views::text_view::Utf8ViewArray;
 
-/// One of the two extremes.
+/// The row that is searched for: the least one or the greatest one.
 #[derive(Clone, Copy, Debug)]
 pub(crate) enum Extreme {
     Least,
     Greatest,
 }
 
-// An extreme of an array. Reading the validity has no effect at run time: the proof learns from it
-// that it has a bit for each row.
+// Calls the method of the array that finds the extreme. The call of `validity` has no effect at run
+// time: it tells the proof that the validity has a bit for each row.
 macro_rules! extreme_of {
     ($array:expr, $extreme:expr) => {{
         let _validity = $array.validity();
@@ -41,7 +41,8 @@ macro_rules! extreme_of {
     }};
 }
 
-/// Returns an extreme of truth values, or `None` if no row is present.
+/// Returns the least or the greatest present truth value, as `extreme` says, or `None` if no row is
+/// present.
 pub(crate) fn truth_extreme(array: &BooleanArray, extreme: Extreme) -> Option<bool>
     ensures { MatchOption result
         (NonePresent (listed (row_at (truth_rows array.now)) (length array.now.values)))
@@ -51,7 +52,8 @@ pub(crate) fn truth_extreme(array: &BooleanArray, extreme: Extreme) -> Option<bo
     extreme_of!(array, extreme)
 }
 
-/// Returns an extreme of numbers, or `None` if no row is present.
+/// Returns the least or the greatest present number, as `extreme` says, or `None` if no row is
+/// present.
 pub(crate) fn number_extreme<T: NativeType + 'static>(
     array: &PrimitiveArray<T>,
     extreme: Extreme,
@@ -65,7 +67,8 @@ pub(crate) fn number_extreme<T: NativeType + 'static>(
     extreme_of!(array, extreme)
 }
 
-/// Returns an extreme of byte strings between offsets, or `None` if no row is present.
+/// Returns the least or the greatest present byte string, as `extreme` says, or `None` if no row is
+/// present.
 pub(crate) fn bytes_extreme<O: Offset>(array: &BinaryArray<O>, extreme: Extreme) -> Option<&[u8]>
     ensures { MatchOption result
         (NonePresent (listed (row_at (offset_rows O.value array.now))
@@ -77,7 +80,8 @@ pub(crate) fn bytes_extreme<O: Offset>(array: &BinaryArray<O>, extreme: Extreme)
     extreme_of!(array, extreme)
 }
 
-/// Returns an extreme of texts between offsets, or `None` if no row is present.
+/// Returns the least or the greatest present text, as `extreme` says, or `None` if no row is
+/// present.
 pub(crate) fn text_extreme<O: Offset>(array: &Utf8Array<O>, extreme: Extreme) -> Option<&str>
     ensures { MatchOption result
         (NonePresent (listed (row_at (offset_rows O.value array.now))
@@ -89,7 +93,8 @@ pub(crate) fn text_extreme<O: Offset>(array: &Utf8Array<O>, extreme: Extreme) ->
     extreme_of!(array, extreme)
 }
 
-/// Returns an extreme of byte strings in views, or `None` if no row is present.
+/// Returns the least or the greatest present byte string of an array of views, as `extreme` says,
+/// or `None` if no row is present.
 pub(crate) fn view_extreme(array: &BinaryViewArray, extreme: Extreme) -> Option<&[u8]>
     ensures { MatchOption result
         (NonePresent (listed (row_at (view_rows array.now)) (length array.now.views)))
@@ -99,7 +104,8 @@ pub(crate) fn view_extreme(array: &BinaryViewArray, extreme: Extreme) -> Option<
     extreme_of!(array, extreme)
 }
 
-/// Returns an extreme of texts in views, or `None` if no row is present.
+/// Returns the least or the greatest present text of an array of views, as `extreme` says, or
+/// `None` if no row is present.
 pub(crate) fn text_view_extreme(array: &Utf8ViewArray, extreme: Extreme) -> Option<&str>
     ensures { MatchOption result
         (NonePresent (listed (row_at (view_rows array.now)) (length array.now.views)))

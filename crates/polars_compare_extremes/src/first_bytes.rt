@@ -1,12 +1,13 @@
-//! The order of byte strings by their first bytes, which nearly always decide.
+//! The order of two byte strings, decided by their first bytes if these differ.
 
 ghost use Rattle.std.specs.Prelude.{◌≡◌};
 ghost use Rattle.polars_arrays_flat.specs.ByteOrder.{bytes_lt};
 
 use polars_arrays_flat::byte_order::bytes_less;
 
-/// Returns whether the left byte string is less. If the first bytes differ, one comparison decides;
-/// in a search for an extreme that is so for nearly all rows.
+/// Returns whether the left byte string is less than the right one. If their first bytes differ, no
+/// other byte is read. In a search for the least or greatest row, the first bytes of most rows
+/// differ from those of the best row found so far.
 #[inline(always)]
 pub(crate) fn less_by_first(left: &[u8], right: &[u8]) -> bool
     ensures { result ≡ bytes_lt left.now right.now }

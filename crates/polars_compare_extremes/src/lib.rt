@@ -1,4 +1,4 @@
-//! The least and the greatest of the present rows of an array.
+//! The least and the greatest present row of an array (its extremes).
 #![tactic(auto)]
 
 mod booleans;

@@ -1,5 +1,6 @@
-//! Extremes of arrays and slices of numbers: folds of the present numbers, begun with the first
-//! one.
+//! The least and the greatest number of an array or a slice. The present numbers are folded by the
+//! operator "the lesser of two" or "the greater of two", which starts with the first present
+//! number.
 
 ghost use Rattle.std.specs.Option.{option_copied};
 ghost use Rattle.std.specs.Prelude.{◌≡◌, ℤ, Bool, length, MatchOption};
@@ -22,29 +23,31 @@ use polars_arrays_numbers::native_type::NativeType;
 use polars_compute_reductions::fold::{fold_all_both, fold_under};
 use polars_compute_reductions::operator::Operator;
 
-/// An operator that folds numbers to the best of them and of a first one.
+/// An operator that returns the better of two numbers: the lesser or the greater one. Its folds
+/// start with a given number, and return the best of that number and the numbers folded.
 trait BestFrom<T: NativeType>: Operator<T> + Drop {
-    // The test of whether a row is better than another.
+    // Relation of two rows: the first is better than the second.
     ghost better: { Row → Row → Bool };
 
-    // Better than x is better than all that are not better than x.
+    // Laws of the relation. No two rows are each better than the other. If y is better than x, and
+    // z is not better than x, then y is better than z.
     ghost preference_law: { Prefers Int better };
 
-    /// Creates the operator whose folds begin with `first`.
+    /// Creates the operator. Its folds start with `first`.
     fn from(first: T) -> Self
         ensures { Self.neutral result ≡ T.value first };
 
-    // Two numbers are joined to the better one.
+    // Joining two numbers gives the better one.
     ghost best_law: { (m n : ℤ) → Self.Operator.joined m n ≡ best_of better m n };
 }
 
-/// A fold of numbers to the least of them and of a first one.
+/// The operator "the lesser of two numbers", whose folds start with `first`.
 #[derive(Drop)]
 struct LeastFrom<T: NativeType> {
     first: T,
 }
 
-/// A fold of numbers to the greatest of them and of a first one.
+/// The operator "the greater of two numbers", whose folds start with `first`.
 #[derive(Drop)]
 struct GreatestFrom<T: NativeType> {
     first: T,
@@ -136,8 +139,8 @@ impl<T: NativeType> BestFrom<T> for GreatestFrom<T> {
     }
 }
 
-// Returns the best of the present numbers, or `None` if none is present. `present` has a bit for
-// each number.
+// Returns the best of the present numbers by the operator `B`, or `None` if no number is present.
+// `present` has a bit for each number; without it all numbers are present.
 fn best_number<T: NativeType, B: BestFrom<T>>(numbers: &[T], present: Option<&Bitmap>) -> Option<T>
     requires { HasBits (length numbers.now) (option_copied present) }
     ensures { MatchOption result
@@ -156,7 +159,7 @@ fn best_number<T: NativeType, B: BestFrom<T>>(numbers: &[T], present: Option<&Bi
     }
 }
 
-// Returns the least and the greatest of the numbers, or `None` without numbers.
+// Returns the least and the greatest number, or `None` if there are no numbers.
 fn ends_of_all<T: NativeType>(numbers: &[T]) -> Option<(T, T)>
     ensures { MatchOption result
         (NonePresent (number_slots T.value numbers.now))
@@ -171,8 +174,8 @@ fn ends_of_all<T: NativeType>(numbers: &[T]) -> Option<(T, T)>
     Some(ends)
 }
 
-// Returns the least and the greatest of the present numbers, or `None` if none is present.
-// `present` has a bit for each number.
+// Returns the least and the greatest of the present numbers, or `None` if no number is present.
+// `present` has a bit for each number; without it all numbers are present.
 fn ends<T: NativeType>(numbers: &[T], present: Option<&Bitmap>) -> Option<(T, T)>
     requires { HasBits (length numbers.now) (option_copied present) }
     ensures { MatchOption result

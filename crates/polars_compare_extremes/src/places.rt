@@ -1,4 +1,4 @@
-//! Searches for the best present byte string.
+//! Searches for the best present byte string of an array: the least or the greatest one.
 
 ghost use Rattle.std.specs.Prelude.{◌≡◌, ◌<◌, ℕ, true, false, length, IfSome, MatchOption};
 ghost use Rattle.std.specs.Option.{option_copied};
@@ -13,7 +13,8 @@ use polars_arrays_bits::bitmap::Bitmap;
 use polars_arrays_flat::byte_rows::ByteRows;
 use polars_arrays_flat::validity::is_present;
 
-// Returns the place of the first present row among `n` rows, or `None` if all are null.
+// Returns the index of the first present row among `n` rows, or `None` if no row is present.
+// Without `present` all rows are present.
 pub(crate) fn first_present(present: Option<&Bitmap>, n: usize) -> Option<usize>
     requires { HasBits n (option_copied present) }
     ensures { MatchOption result
@@ -28,7 +29,8 @@ pub(crate) fn first_present(present: Option<&Bitmap>, n: usize) -> Option<usize>
     None
 }
 
-// Returns the place of the first best present byte string, given the first present one.
+// Returns the index of the best present byte string by `preference`. If several are equally good,
+// returns the index of the first of them. `first` is the index of the first present row.
 fn best_from<P: Preference, R: ByteRows>(
     preference: &P,
     rows: &R,
@@ -53,8 +55,9 @@ fn best_from<P: Preference, R: ByteRows>(
     place
 }
 
-/// Returns the place of the first best present byte string, or `None` if none is present. `present`
-/// has a bit for each.
+/// Returns the index of the best present byte string by `preference`, or `None` if no row is
+/// present. If several are equally good, returns the index of the first of them. `present` has a
+/// bit for each row; without it all rows are present.
 pub fn best_place<P: Preference, R: ByteRows>(
     preference: &P,
     rows: &R,
@@ -77,8 +80,8 @@ pub fn best_place<P: Preference, R: ByteRows>(
     }
 }
 
-/// Returns the first best present byte string, borrowed, or `None` if none is present. `present`
-/// has a bit for each.
+/// Returns the best present byte string by `preference`, borrowed from `rows`, or `None` if no row
+/// is present. `present` has a bit for each row; without it all rows are present.
 pub fn best_string<'a, P: Preference, R: ByteRows>(
     preference: &P,
     rows: &'a R,

@@ -1,4 +1,4 @@
-//! Preferences of an extreme among byte strings.
+//! The relation "is better" of byte strings in a search for the least or the greatest one.
 
 ghost use Rattle.std.specs.Prelude.{◌≡◌, ◌<◌, length};
 ghost use Rattle.polars_arrays_flat.specs.Row.{Bytes};
@@ -13,15 +13,16 @@ use polars_arrays_numbers::comparison::{Greater, Less};
 use polars_arrays_views::binary_view::BinaryViewArray;
 use polars_compare_leaves::bytes::ByteComparison;
 
-/// A comparison that says which of two byte strings is better, so that a list of them has a best
-/// one.
+/// A comparison that says whether one byte string is better than another. `Less` finds the least
+/// byte string of a list, and `Greater` the greatest.
 pub trait Preference: ByteComparison {
-    /// Returns whether the left byte string is better. It is fast if the first bytes differ.
+    /// Returns whether the left byte string is better than the right one. This is fast if their
+    /// first bytes differ, since no other byte is then read.
     fn is_better(&self, left: &[u8], right: &[u8]) -> bool
         ensures { result ≡ Self.ByteComparison.rows (Bytes left.now) (Bytes right.now) };
 
-    /// Returns whether row `i` is better than row `j`. It is fast if the prefixes of their views
-    /// differ.
+    /// Returns whether row `i` of the array is better than row `j`. Masked rows are compared by
+    /// their stored bytes. This is fast if the prefixes (first four bytes) in the two views differ.
     fn is_better_row(&self, array: &BinaryViewArray, i: usize, j: usize) -> bool
         requires row { i < length array.now.views }
         requires other { j < length array.now.views }
@@ -29,7 +30,8 @@ pub trait Preference: ByteComparison {
             ≡ Self.ByteComparison.rows (string_row (view_strings array.now) i)
             (string_row (view_strings array.now) j) };
 
-    // Better than x is better than all that are not better than x.
+    // Laws of the relation. No two byte strings are each better than the other. If y is better than
+    // x, and z is not better than x, then y is better than z.
     ghost preference_law: { Prefers Bytes Self.ByteComparison.rows };
 }
 

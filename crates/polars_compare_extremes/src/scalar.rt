@@ -1,6 +1,7 @@
-//! A row of an array of any kind that has extremes.
+//! A present row of an array of any kind that has extremes.
 
-/// A truth value, a number, or bytes or a text borrowed from an array, named by the array's kind.
+/// A present row of an array: a truth value, a number, or bytes or a text borrowed from the array.
+/// The variant has the name of the array's kind.
 #[derive(Clone, Copy, Debug)]
 pub enum AnyScalar<'a> {
     Boolean(bool),

@@ -1,4 +1,4 @@
-//! Extremes of arrays of views.
+//! The least and the greatest row of arrays of views (`BinaryViewArray`, `Utf8ViewArray`).
 
 use crate::borrowed::{BytesMinMaxKernel, TextMinMaxKernel};
 use crate::view_places::{best_view, best_view_place};

@@ -1,4 +1,4 @@
-//! Order of rows that are byte strings or texts and a borrowed one.
+//! Order of the rows of an array and one borrowed byte string or text.
 
 ghost use Rattle.std.specs.Prelude.{◌≡◌, None, length, replicate, MatchResult};
 ghost use Rattle.polars_arrays_bits.specs.Errors.{IsMemory};
@@ -13,9 +13,12 @@ use polars_arrays_numbers::comparison::{Greater, GreaterOrEqual, Less, LessOrEqu
 use polars_compare_leaves::bytes::compare_bytes;
 use std::alloc::Global;
 
-/// Order of the rows of an array of byte strings and a borrowed byte string. `TotalOrdKernel` has
-/// methods of the same names, so these are called by path. Validities are ignored. The error is
-/// `Memory`.
+/// Order of the rows of an array of byte strings and one borrowed byte string. Each method returns
+/// a bitmap with a bit for each row. The validity is not read: the bit of a null row is arbitrary.
+/// The error is `Memory`.
+///
+/// Call these methods by path, as in `BytesOrdKernel::tot_lt_kernel_broadcast(&array, Global,
+/// b"x")`, since `TotalOrdKernel` has methods with the same names.
 pub trait BytesOrdKernel: ByteRows + Sized {
     /// Returns for each row whether it is less than the byte string.
     fn tot_lt_kernel_broadcast(&self, alloc: Global, other: &[u8]) -> Result<Bitmap, ComputeError>
@@ -58,9 +61,12 @@ pub trait BytesOrdKernel: ByteRows + Sized {
     }
 }
 
-/// Order of the rows of an array of texts and a borrowed text. `TotalOrdKernel` has methods of the
-/// same names, so these are called by path. Texts are ordered by their UTF-8. Validities are
-/// ignored. The error is `Memory`.
+/// Order of the rows of an array of texts and one borrowed text. Texts are ordered by their bytes
+/// in UTF-8. Each method returns a bitmap with a bit for each row. The validity is not read: the
+/// bit of a null row is arbitrary. The error is `Memory`.
+///
+/// Call these methods by path, as in `TextOrdKernel::tot_lt_kernel_broadcast(&array, Global, "x")`,
+/// since `TotalOrdKernel` has methods with the same names.
 pub trait TextOrdKernel: ByteRows + Sized {
     /// Returns for each row whether it is less than the text.
     fn tot_lt_kernel_broadcast(&self, alloc: Global, other: &str) -> Result<Bitmap, ComputeError>

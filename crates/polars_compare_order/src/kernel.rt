@@ -1,4 +1,4 @@
-//! Order of the rows of two arrays.
+//! The trait `TotalOrdKernel`: order of the rows of arrays of one kind.
 
 ghost use Rattle.std.specs.Prelude.{◌≡◌, None, length, replicate, MatchResult};
 ghost use Rattle.polars_arrays_bits.specs.Errors.{IsMemory};
@@ -11,19 +11,20 @@ use polars_arrays_bits::error::ComputeError;
 use polars_arrays_flat::array::Array;
 use std::alloc::Global;
 
-/// Comparisons by order of the rows of two arrays of one kind: numbers as whole numbers, byte
-/// strings byte by byte, texts by their UTF-8, false before true.
+/// Order of the rows of two arrays of one kind, or of an array and a scalar (a broadcast). Numbers
+/// are ordered as whole numbers, byte strings byte by byte, and texts by their bytes in UTF-8.
+/// `false` is less than `true`.
 ///
-/// Each call returns a bit for each row. Validities are ignored: a bit is arbitrary where one of
-/// the two rows is null. A broadcast compares each row with one scalar. The error is `Memory`.
+/// Each call returns a bitmap with a bit for each row. The validity is not read: if a row is null
+/// on either side, its bit is arbitrary. The error is `Memory`.
 pub trait TotalOrdKernel: Sized + Array {
-    /// The value that a broadcast compares rows with.
+    /// The type of the scalar that a broadcast compares each row with.
     type Scalar;
 
-    // The row of a scalar.
+    // The row that a scalar stands for.
     ghost scalar_row: { Self.Scalar → Row };
 
-    /// Returns for each place whether the row is less than the other one.
+    /// Returns a bit for each index `i`: 1 if row `i` of `self` is less than row `i` of `other`.
     fn tot_lt_kernel(&self, alloc: Global, other: &Self) -> Result<Bitmap, ComputeError>
         requires { length (Self.slots other.now) ≡ length (Self.slots self.now) }
         ensures { MatchResult result
@@ -31,7 +32,8 @@ pub trait TotalOrdKernel: Sized + Array {
             (Self.slots other.now))
             IsMemory };
 
-    /// Returns for each place whether the row is less than or equal to the other one.
+    /// Returns a bit for each index `i`: 1 if row `i` of `self` is less than or equal to row `i` of
+    /// `other`.
     fn tot_le_kernel(&self, alloc: Global, other: &Self) -> Result<Bitmap, ComputeError>
         requires { length (Self.slots other.now) ≡ length (Self.slots self.now) }
         ensures { MatchResult result
@@ -39,7 +41,7 @@ pub trait TotalOrdKernel: Sized + Array {
             (Self.slots other.now))
             IsMemory };
 
-    /// Returns for each place whether the row is greater than the other one.
+    /// Returns a bit for each index `i`: 1 if row `i` of `self` is greater than row `i` of `other`.
     final fn tot_gt_kernel(&self, alloc: Global, other: &Self) -> Result<Bitmap, ComputeError>
         requires { length (Self.slots other.now) ≡ length (Self.slots self.now) }
         ensures { MatchResult result
@@ -50,7 +52,8 @@ pub trait TotalOrdKernel: Sized + Array {
         other.tot_lt_kernel(alloc, self)
     }
 
-    /// Returns for each place whether the row is greater than or equal to the other one.
+    /// Returns a bit for each index `i`: 1 if row `i` of `self` is greater than or equal to row `i`
+    /// of `other`.
     final fn tot_ge_kernel(&self, alloc: Global, other: &Self) -> Result<Bitmap, ComputeError>
         requires { length (Self.slots other.now) ≡ length (Self.slots self.now) }
         ensures { MatchResult result

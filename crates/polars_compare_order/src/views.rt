@@ -1,4 +1,4 @@
-//! Order of arrays of views.
+//! Order of arrays of views (`BinaryViewArray`, `Utf8ViewArray`).
 
 ghost use Rattle.std.specs.Prelude.{string_bytes};
 ghost use Rattle.polars_arrays_flat.specs.Row.{Bytes};

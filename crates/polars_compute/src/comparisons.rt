@@ -1,5 +1,6 @@
-//! Equality and order of arrays of one kind, row by row and against a scalar; comparisons of views
-//! that count the rows looked up in buffers; and equality of two arrays of any kind.
+//! Equality and order of arrays of one kind, row by row or with a scalar. Equality of two arrays of
+//! any kind. Comparisons of arrays of views that count the rows whose bytes they look up in a
+//! buffer.
 
 pub use polars_compare_equality::borrowed::{BytesEqKernel, TextEqKernel};
 pub use polars_compare_equality::kernel::TotalEqKernel;

@@ -1,6 +1,6 @@
-//! Laws of the results of arithmetic, counts, sums, reductions, extremes and distinct values,
-//! stated over the definitions of their contracts alone. A law is a function that does nothing; its
-//! clauses are what is proved.
+//! Laws about the results of arithmetic, counts, sums, reductions, extremes and distinct values. A
+//! law is a function that does nothing at run time. Its `ensures` clauses are proved facts about
+//! the definitions that contracts use.
 
 ghost use Rattle.num_traits.specs.Laws.{bit_len};
 ghost use Rattle.polars_arrays_flat.specs.Row.{Bytes, Int, Truth};
@@ -20,11 +20,11 @@ ghost use Rattle.polars_compute.specs.SumLaw.{SumsJoin};
 use polars_compute_arithmetic::arithmetic::pl_num::PlNumArithmetic;
 use polars_compute_reductions::wrapping::WrappingNumber;
 
-/// States that results depend on rows alone, however they are stored and masked. Arrays with the
-/// same rows get the same rows of functions, operations and counts, the same sum, the same bits of
-/// a reduction, and the same extremes: of numbers, of truth values, of byte strings and texts, and
-/// of arrays of any kind, of one type. They have the same effect on a state of distinct values,
-/// which reads the same number of their rows.
+/// States that results depend only on rows, not on the way in which the rows are stored. Two arrays
+/// with the same rows have the same arithmetic results, the same counts of bits, the same sum, the
+/// same reductions, and the same least and greatest rows. (For `AnyArray` the least and the
+/// greatest row also depend on the type.) Appending either array has the same effect on a state of
+/// distinct values, and reads the same number of rows.
 pub fn law_rows_alone<T: PlNumArithmetic>()
     ensures functions { AnswersByRows T.value T.low (bit_len T.width) }
     ensures operations { ResultsByRows T.value T.low (bit_len T.width) }
@@ -42,17 +42,17 @@ pub fn law_rows_alone<T: PlNumArithmetic>()
     ensures reads { ReadsByRows }
 {}
 
-/// States that the floor quotient by a divisor other than 0, times the divisor, plus the modulus,
-/// wrapped, is the dividend.
+/// States that the floor quotient of `a` and `b`, times `b`, plus the modulus of `a` and `b` is
+/// `a`. The divisor `b` isn't 0, and all operations wrap.
 pub fn law_divides_back<T: PlNumArithmetic>()
     ensures { DividesBack T.low T.high (bit_len T.width) }
 {}
 
-/// States what the quotients by a divisor other than 0 are. The floor quotient is the greatest
-/// whole number that is at most the fraction. The truncated quotient is the whole number nearest to
-/// the fraction among those between 0 and it. The modulus is the dividend less the floor quotient
-/// times the divisor: it is 0 or has the divisor's sign, and has a smaller magnitude. No other
-/// numbers are so.
+/// States which whole numbers the quotients and the modulus of `a` and a divisor `b` are, if `b`
+/// isn't 0. The floor quotient is the greatest whole number that is at most `a / b`. The truncated
+/// quotient is the whole number nearest to `a / b` among those from 0 to `a / b`. The modulus is
+/// `a` minus the floor quotient times `b`. It is 0 or has the sign of `b`, and its magnitude is
+/// less than that of `b`. No other number has the same properties.
 pub fn law_quotients()
     ensures floor { FloorIsGreatest }
     ensures truncated { TruncatedIsNearest }
@@ -60,21 +60,23 @@ pub fn law_quotients()
     ensures divided { FloorLeavesModulus }
 {}
 
-/// States that an operation on a column and a number has the result of the operation on the column
-/// and one that repeats the number.
+/// States that an operation on a column and a number has the same result as the operation on the
+/// column and a second column, which holds the number in each row. The number may be the left or
+/// the right operand.
 pub fn law_repeated_number<T: PlNumArithmetic>()
     ensures right { NumberOnRight T.low (bit_len T.width) }
     ensures left { NumberOnLeft T.low (bit_len T.width) }
 {}
 
-/// States that a column can be summed in chunks: the wrapped sum of two lists of rows, one after
-/// the other, is the wrapped sum of their two wrapped sums.
+/// States that a column can be summed in chunks: the wrapped sums of two chunks, added and wrapped,
+/// are the wrapped sum of all rows of both chunks.
 pub fn law_sums_join<T: WrappingNumber>()
     ensures { SumsJoin T.low (bit_len T.width) }
 {}
 
-/// States that merging states of one range is commutative, associative and idempotent, and that two
-/// new states merge to the one to which all arrays of both are appended.
+/// States that merging states of one range is commutative, associative and idempotent. Merging two
+/// new states after arrays were appended to each gives the same state as appending all these arrays
+/// to one new state.
 pub fn law_states_merge()
     ensures either_way { MergesEitherWay }
     ensures in_groups { MergesInGroups }
@@ -82,9 +84,9 @@ pub fn law_states_merge()
     ensures as_appended { MergesAsAppended }
 {}
 
-/// States that once a state has seen all values of its range and a null, no array that it accepts
-/// and no state of its range changes its result. A state of keys has seen all if it has in the
-/// reading in which keys to null entries are null.
+/// States that the result of a state stays the same once the state has seen all values of its range
+/// and a null. Neither appending an array that the state accepts nor merging a state of the same
+/// range changes it. In a state of dictionary keys, each key to a null entry counts as null.
 pub fn law_all_seen()
     ensures appended { StaysWhenAppended }
     ensures merged { StaysWhenMerged }

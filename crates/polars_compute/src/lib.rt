@@ -1,11 +1,14 @@
-//! Computations on columns, re-exported by one crate. A caller depends on this crate alone, and
-//! writes `polars_compute::arithmetic::ArithmeticKernel` for arithmetic on arrays of numbers,
-//! `polars_compute::arithmetic::pl_num::PlNumArithmetic` for arithmetic on single numbers,
-//! `polars_compute::arity` for functions of its own on stored values,
-//! `polars_compute::bitwise::BitwiseKernel` for counts and reductions of bits,
-//! `polars_compute::sum` for sums, `polars_compute::unique` for distinct values,
-//! `polars_compute::comparisons` for equality and order, and `polars_compute::min_max` for
-//! extremes. `laws` states what holds of all results.
+//! Computations on columns. This crate re-exports the modules of several crates:
+//!
+//! - `arithmetic`: arithmetic on arrays of numbers (`ArithmeticKernel`) and on single numbers
+//!   (`pl_num::PlNumArithmetic`)
+//! - `arity`: functions applied to the stored values of arrays
+//! - `bitwise`: counts and reductions of bits (`BitwiseKernel`)
+//! - `sum`: wrapping sums
+//! - `unique`: distinct values
+//! - `comparisons`: equality and order
+//! - `min_max`: the least and the greatest row
+//! - `laws`: laws that hold of all results
 #![tactic(auto)]
 
 pub use polars_compute_arithmetic::{arithmetic, arity};

@@ -1,5 +1,5 @@
-//! The least and the greatest present row: of arrays and slices of numbers and of truth values, of
-//! arrays of byte strings and of texts, and of arrays of any kind.
+//! The least and the greatest present row of arrays of numbers, truth values, byte strings and
+//! texts, of slices of numbers, and of arrays of any kind.
 
 pub use polars_compare_extremes::borrowed::{BytesMinMaxKernel, TextMinMaxKernel};
 pub use polars_compare_extremes::dispatch::{

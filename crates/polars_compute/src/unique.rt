@@ -1,5 +1,6 @@
-//! Distinct values of columns in chunks: states of numbers, of truth values and of dictionary keys
-//! that collect them, merge, and return them in order.
+//! Distinct values of columns in chunks. A state collects the distinct values of arrays of numbers
+//! or truth values, or the keys of dictionaries. States can be merged, and list the values in
+//! ascending order.
 
 pub use polars_compute_slots::number::UniqueNumber;
 pub use polars_compute_unique::boolean::BooleanUniqueKernelState;

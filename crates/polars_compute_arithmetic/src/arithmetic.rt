@@ -1,4 +1,4 @@
-//! Arithmetic on arrays of numbers.
+//! Arithmetic on arrays of numbers (`ArithmeticKernel`).
 
 ghost use Rattle.std.specs.Prelude.{◌≡◌, ◌||◌, ℕ, ℤ, Bool, IfOk, IsOk, IsTrue, MatchResult, length};
 ghost use Rattle.num_traits.specs.Laws.{bit_len};
@@ -31,12 +31,16 @@ pub trait HasPrimitiveArithmeticKernel: NativeType + PrimitiveArithmeticKernelIm
 
 impl<T: NativeType + PrimitiveArithmeticKernelImpl> HasPrimitiveArithmeticKernel for T {}
 
-/// Arithmetic on the rows of arrays, wrapped to their type. A row is null if an operand is null or
-/// the divisor is 0. A scalar acts as a column that repeats it. All calls consume their arrays, and
-/// write in place into values that an array owns. The error is `Memory`. Results own their values,
-/// except for a division by the scalar 0: it keeps the values of the array, owned or shared.
+/// Arithmetic on the rows of arrays of numbers, wrapped to their type. A row of the result is null
+/// if an operand is null or the divisor is 0. A number in place of an array acts as an array that
+/// holds the number in each row.
+///
+/// Each call takes ownership of its arrays. If an array owns its values, they are overwritten with
+/// the result; otherwise new values are allocated. The error is `Memory`. The result owns its
+/// values, with one exception: a division of an array by the number 0 returns the array with its
+/// values unchanged, owned or shared, and with all rows null.
 pub trait ArithmeticKernel: Sized + Array {
-    /// The type of scalars.
+    /// The type of a number in place of an array.
     type Scalar;
 
     // The least number of the type, and its width in bits.
@@ -44,13 +48,14 @@ pub trait ArithmeticKernel: Sized + Array {
 
     ghost width: { ℕ };
 
-    // The number of a scalar.
+    // The whole number that a scalar stands for.
     ghost number: { Self.Scalar → ℤ };
 
-    // Sole ownership of the stored values.
+    // True if the array owns its stored values, so that they can be overwritten.
     ghost owns: { Self → Bool };
 
-    /// Returns the absolute values.
+    /// Returns the absolute value of each row. The least number of a signed type has none in the
+    /// type, and is unchanged.
     fn wrapping_abs(self, alloc: Global) -> Result<Self, ComputeError>
         ensures answers { MatchResult result
             (λ a. rows_under (Self.mask a) (Self.slots a)
@@ -59,7 +64,7 @@ pub trait ArithmeticKernel: Sized + Array {
         ensures owned { IfOk result (λ a. IsTrue (owns a)) }
         ensures in_place { IsTrue (owns self) → IsOk result };
 
-    /// Returns the negated numbers.
+    /// Returns each row negated.
     fn wrapping_neg(self, alloc: Global) -> Result<Self, ComputeError>
         ensures answers { MatchResult result
             (λ a. rows_under (Self.mask a) (Self.slots a)
@@ -68,7 +73,7 @@ pub trait ArithmeticKernel: Sized + Array {
         ensures owned { IfOk result (λ a. IsTrue (owns a)) }
         ensures in_place { IsTrue (owns self) → IsOk result };
 
-    /// Returns the sums.
+    /// Returns the sum of the two rows at each index.
     fn wrapping_add(self, alloc: Global, rhs: Self) -> Result<Self, ComputeError>
         requires { length (Self.slots self) ≡ length (Self.slots rhs) }
         ensures answers { MatchResult result
@@ -77,7 +82,7 @@ pub trait ArithmeticKernel: Sized + Array {
             (rows_under (Self.mask rhs) (Self.slots rhs))) IsMemory }
         ensures owned { IfOk result (λ a. IsTrue (owns a)) };
 
-    /// Returns the differences.
+    /// Returns the difference of the two rows at each index: the row of `self` minus that of `rhs`.
     fn wrapping_sub(self, alloc: Global, rhs: Self) -> Result<Self, ComputeError>
         requires { length (Self.slots self) ≡ length (Self.slots rhs) }
         ensures answers { MatchResult result
@@ -86,7 +91,7 @@ pub trait ArithmeticKernel: Sized + Array {
             (rows_under (Self.mask rhs) (Self.slots rhs))) IsMemory }
         ensures owned { IfOk result (λ a. IsTrue (owns a)) };
 
-    /// Returns the products.
+    /// Returns the product of the two rows at each index.
     fn wrapping_mul(self, alloc: Global, rhs: Self) -> Result<Self, ComputeError>
         requires { length (Self.slots self) ≡ length (Self.slots rhs) }
         ensures answers { MatchResult result
@@ -95,7 +100,7 @@ pub trait ArithmeticKernel: Sized + Array {
             (rows_under (Self.mask rhs) (Self.slots rhs))) IsMemory }
         ensures owned { IfOk result (λ a. IsTrue (owns a)) };
 
-    /// Returns the quotients, rounded down.
+    /// Divides the row of `self` by the row of `rhs` at each index, rounding down.
     fn wrapping_floor_div(self, alloc: Global, rhs: Self) -> Result<Self, ComputeError>
         requires { length (Self.slots self) ≡ length (Self.slots rhs) }
         ensures answers { MatchResult result
@@ -104,7 +109,7 @@ pub trait ArithmeticKernel: Sized + Array {
             (rows_under (Self.mask rhs) (Self.slots rhs))) IsMemory }
         ensures owned { IfOk result (λ a. IsTrue (owns a)) };
 
-    /// Returns the quotients, rounded toward 0.
+    /// Divides the row of `self` by the row of `rhs` at each index, rounding toward 0.
     fn wrapping_trunc_div(self, alloc: Global, rhs: Self) -> Result<Self, ComputeError>
         requires { length (Self.slots self) ≡ length (Self.slots rhs) }
         ensures answers { MatchResult result
@@ -114,7 +119,8 @@ pub trait ArithmeticKernel: Sized + Array {
             (rows_under (Self.mask rhs) (Self.slots rhs))) IsMemory }
         ensures owned { IfOk result (λ a. IsTrue (owns a)) };
 
-    /// Returns the remainders of the quotients that are rounded down.
+    /// Returns the modulus of the rows of `self` and `rhs` at each index: the remainder of the
+    /// division that rounds down. It is 0 or has the sign of the divisor.
     fn wrapping_mod(self, alloc: Global, rhs: Self) -> Result<Self, ComputeError>
         requires { length (Self.slots self) ≡ length (Self.slots rhs) }
         ensures answers { MatchResult result
@@ -215,7 +221,8 @@ pub trait ArithmeticKernel: Sized + Array {
             (rows_under (Self.mask rhs) (Self.slots rhs))) IsMemory }
         ensures owned { IfOk result (λ a. IsTrue (owns a)) };
 
-    /// Returns the remainders of each row divided by a number, rounding down.
+    /// Returns the modulus of each row and a number as divisor: the remainder of the division that
+    /// rounds down.
     fn wrapping_mod_scalar(self, alloc: Global, rhs: Self::Scalar) -> Result<Self, ComputeError>
         ensures answers { MatchResult result
             (λ a. rows_under (Self.mask a) (Self.slots a)
@@ -223,7 +230,8 @@ pub trait ArithmeticKernel: Sized + Array {
             (λ n. modulo n (number rhs)) (rows_under (Self.mask self) (Self.slots self))) IsMemory }
         ensures owned { IfOk result (λ a. owns a ≡ (owns self || is_nonzero (number rhs))) };
 
-    /// Returns the remainders of a number divided by each row, rounding down.
+    /// Returns the modulus of a number and each row as divisor: the remainder of the division that
+    /// rounds down.
     fn wrapping_mod_scalar_lhs(
         alloc: Global,
         lhs: Self::Scalar,
@@ -235,7 +243,8 @@ pub trait ArithmeticKernel: Sized + Array {
             (rows_under (Self.mask rhs) (Self.slots rhs))) IsMemory }
         ensures owned { IfOk result (λ a. IsTrue (owns a)) };
 
-    /// Returns the quotients, rounded down. Another name of `wrapping_floor_div`.
+    /// Divides the row of `self` by the row of `rhs` at each index, rounding down. Another name of
+    /// `wrapping_floor_div`.
     final fn legacy_div(self, alloc: Global, rhs: Self) -> Result<Self, ComputeError>
         requires { length (Self.slots self) ≡ length (Self.slots rhs) }
         ensures answers { MatchResult result

@@ -1,4 +1,5 @@
-//! Functions applied to the stored values of arrays, including those of masked rows.
+//! Functions applied to the stored values of arrays. They are called on the values of null rows,
+//! too.
 
 ghost use Rattle.std.specs.Prelude.{◌≡◌, All, IfOk, IsFalse, IsOk, IsTrue, MatchResult, length};
 ghost use Rattle.std.specs.List.{AllZip};
@@ -12,7 +13,7 @@ use polars_arrays_flat::primitive::PrimitiveArray;
 use polars_arrays_numbers::native_type::NativeType;
 use std::alloc::{AllocError, Global};
 
-// Applies `op` to each value, into a new vector.
+// Returns a new vector of the results of `op` for the values, in order.
 fn map_values<I: Copy, O: Copy, F: Fn(I) -> O>(
     alloc: Global,
     values: &[I],
@@ -28,7 +29,7 @@ fn map_values<I: Copy, O: Copy, F: Fn(I) -> O>(
     Ok(mapped)
 }
 
-// Applies `op` to each value in place.
+// Replaces each value by the result of `op` for it.
 fn map_in_place<T: Copy, F: Fn(T) -> T>(values: &mut [T], op: F)
     requires { All (F.pre op) values.old }
     ensures { AllZip (F.post op) values.old values.new }
@@ -38,8 +39,8 @@ fn map_in_place<T: Copy, F: Fn(T) -> T>(values: &mut [T], op: F)
     }
 }
 
-/// Applies `op` to each stored value, into a new array. The result owns its values. Nulls stay
-/// null. The error is `Memory`.
+/// Returns a new array of the results of `op` for all stored values, also those of null rows. Null
+/// rows stay null. The result owns its values. The error is `Memory`.
 pub fn prim_unary_values<I: NativeType, O: NativeType, F: Fn(I) -> O>(
     alloc: Global,
     arr: PrimitiveArray<I>,
@@ -55,7 +56,8 @@ pub fn prim_unary_values<I: NativeType, O: NativeType, F: Fn(I) -> O>(
     answers
 }
 
-// Applies `op` to each stored value, into a new array that takes over the validity.
+// Returns a new array of the results of `op` for all stored values of `arr`. Moves the validity of
+// `arr` to the new array. The error is `Memory`.
 fn new_values<I: NativeType, O: NativeType, F: Fn(I) -> O>(
     alloc: Global,
     arr: &mut PrimitiveArray<I>,
@@ -69,10 +71,10 @@ fn new_values<I: NativeType, O: NativeType, F: Fn(I) -> O>(
     Ok(PrimitiveArray::from_vec(values).with_validity(arr.take_validity()))
 }
 
-/// Applies `op` to each stored value. Values that the array owns are overwritten, without
-/// allocation and without error. Shared values stay unchanged, and new ones are allocated; the
-/// error is then `Memory`. Either way the result owns its values, so that a second call does not
-/// allocate.
+/// Applies `op` to each stored value, also those of null rows. If the array owns its values, the
+/// results overwrite them, and the call neither allocates nor fails. If the array shares its
+/// values, they stay unchanged and new ones are allocated; the error is then `Memory`. Null rows
+/// stay null. The result owns its values.
 pub fn prim_unary_in_place<T: NativeType, F: Fn(T) -> T>(
     alloc: Global,
     arr: PrimitiveArray<T>,
@@ -91,7 +93,8 @@ pub fn prim_unary_in_place<T: NativeType, F: Fn(T) -> T>(
     Ok(arr)
 }
 
-// Applies `op` to the values at each place, into a new vector.
+// Returns a new vector of the results of `op` for the two values at each index. The slices have
+// equal lengths.
 fn map_pairs<L: Copy, R: Copy, O: Copy, F: Fn(L, R) -> O>(
     alloc: Global,
     left: &[L],
@@ -109,7 +112,8 @@ fn map_pairs<L: Copy, R: Copy, O: Copy, F: Fn(L, R) -> O>(
     Ok(mapped)
 }
 
-// Applies `op` to the values at each place, and overwrites the left one.
+// Replaces each left value by the result of `op` for it and the right value at the same index. The
+// slices have equal lengths.
 fn map_over_left<T: Copy, R: Copy, F: Fn(T, R) -> T>(left: &mut [T], right: &[R], op: F)
     requires same_length { length left.old ≡ length right.now }
     requires callable { TakesPairs (F.pre op) left.old right.now }
@@ -120,7 +124,8 @@ fn map_over_left<T: Copy, R: Copy, F: Fn(T, R) -> T>(left: &mut [T], right: &[R]
     }
 }
 
-// Applies `op` to the values at each place, and overwrites the right one.
+// Replaces each right value by the result of `op` for the left value at the same index and it. The
+// slices have equal lengths.
 fn map_over_right<L: Copy, T: Copy, F: Fn(L, T) -> T>(left: &[L], right: &mut [T], op: F)
     requires same_length { length left.now ≡ length right.old }
     requires callable { TakesPairs (F.pre op) left.now right.old }
@@ -131,7 +136,8 @@ fn map_over_right<L: Copy, T: Copy, F: Fn(L, T) -> T>(left: &[L], right: &mut [T
     }
 }
 
-/// Joins two validities: a row is present if it is in both. The error is `Memory`.
+/// Combines two validities: a row of the result is present if it is present in both. A validity of
+/// `None` means that all rows are present. The error is `Memory`.
 pub(crate) fn join_validities(
     alloc: Global,
     left: Option<Bitmap>,
@@ -152,8 +158,9 @@ pub(crate) fn join_validities(
     }
 }
 
-/// Applies `op` to each pair of stored values, into a new array. The result owns its values. A row
-/// is null if one of the two is. The error is `Memory`.
+/// Returns a new array of the results of `op` for the two stored values at each index, also those
+/// of null rows. A row of the result is null if it is null in either array. The result owns its
+/// values. The error is `Memory`.
 pub fn prim_binary_values<L: NativeType, R: NativeType, O: NativeType, F: Fn(L, R) -> O>(
     alloc: Global,
     lhs: PrimitiveArray<L>,
@@ -172,7 +179,8 @@ pub fn prim_binary_values<L: NativeType, R: NativeType, O: NativeType, F: Fn(L, 
     answers
 }
 
-// Applies `op` to each pair of stored values, into a new array. Removes both validities.
+// Returns a new array of the results of `op` for the two stored values at each index. Takes the
+// validities out of both arrays, and combines them. The error is `Memory`.
 fn new_pairs<L: NativeType, R: NativeType, O: NativeType, F: Fn(L, R) -> O>(
     alloc: Global,
     lhs: &mut PrimitiveArray<L>,
@@ -189,10 +197,10 @@ fn new_pairs<L: NativeType, R: NativeType, O: NativeType, F: Fn(L, R) -> O>(
     Ok(PrimitiveArray::from_vec(values).with_validity(validity))
 }
 
-/// Applies `op` to each pair of stored values. Overwrites the values of the left array if it owns
-/// them, or else those of the right one if it owns those. If neither does, both stay unchanged, and
-/// new values are allocated. The result owns its values. A row is null if one of the two is. The
-/// error is `Memory`.
+/// Applies `op` to the two stored values at each index, also those of null rows. The results
+/// overwrite the values of `lhs` if it owns them, or else those of `rhs` if it owns them. If both
+/// arrays share their values, these stay unchanged and new ones are allocated. A row of the result
+/// is null if it is null in either array. The result owns its values. The error is `Memory`.
 pub fn prim_binary_in_place<T: NativeType, F: Fn(T, T) -> T>(
     alloc: Global,
     lhs: PrimitiveArray<T>,
@@ -218,8 +226,8 @@ pub fn prim_binary_in_place<T: NativeType, F: Fn(T, T) -> T>(
     }
 }
 
-// Applies `op` to each pair of stored values, and overwrites the values of the left array if it
-// owns them, otherwise those of the right one.
+// Applies `op` to the two stored values at each index. The results overwrite the values of `lhs` if
+// it owns them, otherwise those of `rhs`, which must then own them. Returns the overwritten array.
 fn written_pairs<T: NativeType, F: Fn(T, T) -> T>(
     lhs: PrimitiveArray<T>,
     rhs: PrimitiveArray<T>,

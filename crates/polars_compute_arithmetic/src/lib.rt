@@ -1,4 +1,5 @@
-//! Maps over columns of numbers, and wrapping arithmetic.
+//! Functions applied to the stored values of arrays of numbers (`arity`), and wrapping arithmetic
+//! on numbers and on arrays of numbers (`arithmetic`).
 #![tactic(auto)]
 
 pub mod arithmetic;

@@ -1,4 +1,4 @@
-//! Operations on two numbers, applied to arrays.
+//! Applies an operation on two numbers to the rows of arrays.
 
 ghost use Rattle.std.specs.Prelude.{◌≡◌, ◌||◌, IfOk, IsOk, IsTrue, MatchResult, length};
 ghost use Rattle.num_traits.specs.Laws.{bit_len};
@@ -17,8 +17,8 @@ use polars_arrays_flat::primitive::PrimitiveArray;
 use polars_arrays_numbers::native_type::NativeType;
 use std::alloc::Global;
 
-// Applies an operation to each pair of stored values. A row is null if one of the two is. The error
-// is `Memory`.
+// Applies the operation `O` to the two values at each index. A row of the result is null if it is
+// null in either array. The error is `Memory`.
 pub(crate) fn apply_pairs<T: NativeType, O: NumberOperation<T>>(
     alloc: Global,
     lhs: PrimitiveArray<T>,
@@ -32,7 +32,8 @@ pub(crate) fn apply_pairs<T: NativeType, O: NumberOperation<T>>(
     prim_binary_in_place(alloc, lhs, rhs, |x, y| O::apply(x, y))
 }
 
-// Applies an operation to each stored value and a number. Nulls stay null. The error is `Memory`.
+// Applies the operation `O` to each value of `lhs` and the number `rhs`. Null rows stay null. The
+// error is `Memory`. If `lhs` owns its values, there is no error.
 pub(crate) fn apply_right<T: NativeType, O: NumberOperation<T>>(
     alloc: Global,
     lhs: PrimitiveArray<T>,
@@ -46,8 +47,8 @@ pub(crate) fn apply_right<T: NativeType, O: NumberOperation<T>>(
     prim_unary_in_place(alloc, lhs, |x| O::apply(x, rhs))
 }
 
-// Applies an operation to `lhs` and each stored value on its right. Nulls stay null. The error is
-// `Memory`.
+// Applies the operation `O` to the number `lhs` and each value of `rhs`. Null rows stay null. The
+// error is `Memory`. If `rhs` owns its values, there is no error.
 pub(crate) fn apply_left<T: NativeType, O: NumberOperation<T>>(
     alloc: Global,
     lhs: T,
@@ -61,8 +62,9 @@ pub(crate) fn apply_left<T: NativeType, O: NumberOperation<T>>(
     prim_unary_in_place(alloc, rhs, |y| O::apply(lhs, y))
 }
 
-// Applies an operation to each pair of stored values. A row is null if one of the two is, or if the
-// right one is 0. The error is `Memory`.
+// Applies the division `O` to the two values at each index: a dividend of `lhs` and a divisor of
+// `rhs`. A row of the result is null if it is null in either array or if its divisor is 0. The
+// error is `Memory`.
 pub(crate) fn divide_pairs<T: NativeType + Zero, O: NumberOperation<T>>(
     alloc: Global,
     lhs: PrimitiveArray<T>,
@@ -82,8 +84,8 @@ pub(crate) fn divide_pairs<T: NativeType + Zero, O: NumberOperation<T>>(
     }
 }
 
-// Applies an operation to a number and each stored value. A row is null if it was, or if it is 0.
-// The error is `Memory`.
+// Applies the division `O` to the number `lhs` and each value of `rhs` as divisor. A row of the
+// result is null if its divisor is null or 0. The error is `Memory`.
 pub(crate) fn divide_each<T: NativeType + Zero, O: NumberOperation<T>>(
     alloc: Global,
     lhs: T,
@@ -98,8 +100,9 @@ pub(crate) fn divide_each<T: NativeType + Zero, O: NumberOperation<T>>(
     apply_left::<T, O>(alloc, lhs, rhs)
 }
 
-// Divides each stored value by a number. Nulls stay null. If the number is 0, each row is null, and
-// the stored values are unchanged. The error is `Memory`.
+// Applies the division `O` to each value of `lhs` and the divisor `rhs`. Null rows stay null. If
+// `rhs` is 0, all rows of the result are null, and the stored values are unchanged. The error is
+// `Memory`.
 pub(crate) fn divide_by<T: DivisorNumber + Zero, O: NumberDivision<T>>(
     alloc: Global,
     lhs: PrimitiveArray<T>,

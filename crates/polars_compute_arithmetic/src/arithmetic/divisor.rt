@@ -1,4 +1,4 @@
-//! Requirements of arithmetic on a number type: prepared divisors, and bounds of its numbers.
+//! The trait `DivisorNumber`: number types whose divisors can be prepared.
 
 ghost use Rattle.std.specs.Prelude.{◌≡◌, ◌↔◌, ◌≤◌, ◌≤ℤ◌, ℤ, IsSome, IfSome, pos, unsigned_abs};
 ghost use Rattle.polars_compute_arithmetic.specs.Quotients.{floor_quotient, truncated_quotient};
@@ -7,29 +7,30 @@ use crate::arithmetic::reciprocals::{Reciprocal32, Reciprocal64, ShortReciprocal
 use crate::arithmetic::signed_divisors::{SignedDivisor16, SignedDivisor32, SignedDivisor64};
 use polars_arrays_numbers::native_type::NativeType;
 
-/// A number type with prepared divisors. A prepared divisor has its reciprocal, so that each
-/// quotient is a product.
+/// A number type whose divisors can be prepared. A prepared divisor stores its reciprocal, so that
+/// each division by it is a multiplication and a shift, which is faster than a division.
 pub trait DivisorNumber: NativeType {
-    /// A divisor with its reciprocal.
+    /// A prepared divisor: a number with its reciprocal.
     type Divisor: Drop;
 
-    // The divisor.
+    // The number that a prepared divisor divides by.
     ghost divisor: { Self.Divisor → ℤ };
 
-    /// Returns the number as a prepared divisor, or `None` if it is 0, 1 or -1.
+    /// Prepares the number as a divisor. Returns `None` if it is 0, 1 or -1.
     fn to_divisor(self) -> Option<Self::Divisor>
         ensures some { IsSome result ↔ (2 ≤ unsigned_abs (Self.value self)) }
         ensures same { IfSome result (λ kept. divisor kept ≡ Self.value self) };
 
-    /// Returns the quotient by a prepared divisor, rounded down.
+    /// Divides the number by a prepared divisor, and returns the quotient rounded down.
     fn floor_by(self, by: &Self::Divisor) -> Self
         ensures { Self.value result ≡ floor_quotient (Self.value self) (divisor by.now) };
 
-    /// Returns the quotient by a prepared divisor, rounded toward 0.
+    /// Divides the number by a prepared divisor, and returns the quotient rounded toward 0.
     fn truncated_by(self, by: &Self::Divisor) -> Self
         ensures { Self.value result ≡ truncated_quotient (Self.value self) (divisor by.now) };
 
-    /// Law: a number lies between the least and the greatest one of its type.
+    /// States that the number lies between the least and the greatest number of its type. Does
+    /// nothing at run time.
     fn law_ends(self)
         ensures least { Self.low ≤ℤ Self.value self }
         ensures greatest { Self.value self ≤ℤ Self.high };

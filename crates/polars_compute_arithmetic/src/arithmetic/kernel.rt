@@ -1,5 +1,5 @@
-//! Arithmetic on arrays of numbers, with one generic function for each operation. All calls consume
-//! their arrays.
+//! The trait `PrimitiveArithmeticKernelImpl`: arithmetic on arrays of numbers, with one generic
+//! function for each operation. Each function takes ownership of its arrays.
 
 ghost use Rattle.std.specs.Prelude.{◌≡◌, ◌||◌, IfOk, IsOk, IsTrue, MatchResult, length};
 ghost use Rattle.num_traits.specs.Laws.{bit_len};
@@ -23,12 +23,17 @@ use polars_arrays_bits::error::ComputeError;
 use polars_arrays_flat::primitive::PrimitiveArray;
 use std::alloc::Global;
 
-/// Arithmetic on arrays of one number type, wrapped to the type. A row is null if an operand is
-/// null or the divisor is 0. A scalar acts as a column that repeats it. Values that an array owns
-/// are written in place. The error is `Memory`. Results own their values, except for a division by
-/// the scalar 0: it keeps the values of the array, owned or shared.
+/// Arithmetic on arrays of one number type, wrapped to the type. A row of the result is null if an
+/// operand is null or the divisor is 0. A number in place of an array acts as an array that holds
+/// the number in each row.
+///
+/// If an array owns its values, they are overwritten with the result; otherwise new values are
+/// allocated. The error is `Memory`. The result owns its values, with one exception: a division of
+/// an array by the number 0 returns the array with its values unchanged, owned or shared, and with
+/// all rows null.
 pub trait PrimitiveArithmeticKernelImpl: PlNumArithmetic {
-    /// Returns the absolute values.
+    /// Returns the absolute value of each row. The least number of a signed type has none in the
+    /// type, and is unchanged.
     final fn prim_wrapping_abs(
         alloc: Global,
         lhs: PrimitiveArray<Self>,
@@ -41,7 +46,7 @@ pub trait PrimitiveArithmeticKernelImpl: PlNumArithmetic {
         prim_unary_in_place(alloc, lhs, |x| PlNumArithmetic::wrapping_abs(x))
     }
 
-    /// Returns the negated numbers.
+    /// Returns each row negated.
     final fn prim_wrapping_neg(
         alloc: Global,
         lhs: PrimitiveArray<Self>,
@@ -54,7 +59,7 @@ pub trait PrimitiveArithmeticKernelImpl: PlNumArithmetic {
         prim_unary_in_place(alloc, lhs, |x| PlNumArithmetic::wrapping_neg(x))
     }
 
-    /// Returns the sums.
+    /// Returns the sum of the two rows at each index.
     final fn prim_wrapping_add(
         alloc: Global,
         lhs: PrimitiveArray<Self>,
@@ -68,7 +73,7 @@ pub trait PrimitiveArithmeticKernelImpl: PlNumArithmetic {
         apply_pairs::<Self, Sum>(alloc, lhs, rhs)
     }
 
-    /// Returns the differences.
+    /// Returns the difference of the two rows at each index: the left row minus the right one.
     final fn prim_wrapping_sub(
         alloc: Global,
         lhs: PrimitiveArray<Self>,
@@ -82,7 +87,7 @@ pub trait PrimitiveArithmeticKernelImpl: PlNumArithmetic {
         apply_pairs::<Self, Difference>(alloc, lhs, rhs)
     }
 
-    /// Returns the products.
+    /// Returns the product of the two rows at each index.
     final fn prim_wrapping_mul(
         alloc: Global,
         lhs: PrimitiveArray<Self>,
@@ -96,7 +101,7 @@ pub trait PrimitiveArithmeticKernelImpl: PlNumArithmetic {
         apply_pairs::<Self, Product>(alloc, lhs, rhs)
     }
 
-    /// Returns the quotients, rounded down.
+    /// Divides the left row by the right one at each index, rounding down.
     final fn prim_wrapping_floor_div(
         alloc: Global,
         lhs: PrimitiveArray<Self>,
@@ -110,7 +115,7 @@ pub trait PrimitiveArithmeticKernelImpl: PlNumArithmetic {
         divide_pairs::<Self, FloorQuotient>(alloc, lhs, rhs)
     }
 
-    /// Returns the quotients, rounded toward 0.
+    /// Divides the left row by the right one at each index, rounding toward 0.
     final fn prim_wrapping_trunc_div(
         alloc: Global,
         lhs: PrimitiveArray<Self>,
@@ -125,7 +130,8 @@ pub trait PrimitiveArithmeticKernelImpl: PlNumArithmetic {
         divide_pairs::<Self, TruncatedQuotient>(alloc, lhs, rhs)
     }
 
-    /// Returns the remainders of the quotients that are rounded down.
+    /// Returns the modulus of the left and the right row at each index: the remainder of the
+    /// division that rounds down.
     final fn prim_wrapping_mod(
         alloc: Global,
         lhs: PrimitiveArray<Self>,
@@ -257,7 +263,8 @@ pub trait PrimitiveArithmeticKernelImpl: PlNumArithmetic {
         divide_each::<Self, TruncatedQuotient>(alloc, lhs, rhs)
     }
 
-    /// Returns the remainders of each row divided by a number, rounding down.
+    /// Returns the modulus of each row and a number as divisor: the remainder of the division that
+    /// rounds down.
     final fn prim_wrapping_mod_scalar(
         alloc: Global,
         lhs: PrimitiveArray<Self>,
@@ -272,7 +279,8 @@ pub trait PrimitiveArithmeticKernelImpl: PlNumArithmetic {
         divide_by::<Self, Modulus>(alloc, lhs, rhs)
     }
 
-    /// Returns the remainders of a number divided by each row, rounding down.
+    /// Returns the modulus of a number and each row as divisor: the remainder of the division that
+    /// rounds down.
     final fn prim_wrapping_mod_scalar_lhs(
         alloc: Global,
         lhs: Self,

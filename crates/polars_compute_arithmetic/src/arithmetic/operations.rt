@@ -1,4 +1,5 @@
-//! Operations on two numbers, a type for each, so that the maps over arrays are written once.
+//! Types that stand for operations on two numbers. Functions on arrays are generic in such a type,
+//! and so are written once for all operations.
 
 ghost use Rattle.std.specs.Prelude.{◌≡◌, ◌≢◌, ◌≤◌, ℤ, pos, refl, unsigned_abs};
 ghost use Rattle.num_traits.specs.Laws.{bit_len};
@@ -14,28 +15,29 @@ use crate::arithmetic::divisor::DivisorNumber;
 use crate::arithmetic::pl_num::PlNumArithmetic;
 use polars_arrays_numbers::native_type::NativeType;
 
-/// An operation on two numbers.
+/// An operation on two numbers of type `T`.
 pub(crate) trait NumberOperation<T: NativeType> {
-    // The operation on whole numbers.
+    // The operation on whole numbers, before the result is wrapped.
     ghost meaning: { Operation };
 
-    /// Returns the result wrapped to the type, or 0 if there is none.
+    /// Returns the result wrapped to the type, or 0 if the operation has no result (a division by
+    /// 0).
     fn apply(x: T, y: T) -> T
         ensures { Gives T.value T.low (bit_len T.width) meaning x y result };
 }
 
-/// A division: it has a result for each divisor except 0.
+/// A division: an operation that has a result for each divisor except 0.
 pub(crate) trait NumberDivision<T: DivisorNumber>: NumberOperation<T> {
-    // The quotient by a divisor other than 0.
+    // The result for a divisor other than 0, before it is wrapped.
     ghost divided: { ℤ → ℤ → ℤ };
 
-    /// Divides by a prepared divisor.
+    /// Divides `x` by `rhs`, which isn't 0. `divisor` is `rhs` as a prepared divisor.
     fn by_divisor(x: T, rhs: T, divisor: &T::Divisor) -> T
         requires some { T.value rhs ≢ pos 0 }
         requires same { T.divisor divisor.now ≡ T.value rhs }
         ensures { Gives T.value T.low (bit_len T.width) Self.meaning x rhs result };
 
-    /// Divides by 1 or -1.
+    /// Divides `x` by `rhs`, which is 1 or -1.
     fn by_unit(x: T, rhs: T) -> T
         requires some { T.value rhs ≢ pos 0 }
         requires unit { 2 ≤ unsigned_abs (T.value rhs) → ⊥ }
@@ -61,7 +63,7 @@ pub(crate) struct FloorQuotient;
 /// Division, rounding toward 0.
 pub(crate) struct TruncatedQuotient;
 
-/// The remainder of division, rounding down.
+/// The modulus: the remainder of the division that rounds down.
 pub(crate) struct Modulus;
 
 impl<T: PlNumArithmetic> NumberOperation<T> for Sum {

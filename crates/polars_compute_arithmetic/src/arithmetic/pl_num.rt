@@ -1,4 +1,4 @@
-//! Arithmetic on single numbers.
+//! The trait `PlNumArithmetic`: arithmetic on single numbers.
 
 ghost use Rattle.std.specs.Prelude.{◌≡◌, ◌≢◌, pos, int_rem};
 ghost use Rattle.num_traits.specs.Laws.{bit_len};
@@ -13,7 +13,7 @@ use crate::arithmetic::divisor::DivisorNumber;
 use num_traits::{One, WrappingAdd, WrappingMul, WrappingNeg, WrappingSub, Zero};
 use polars_compute_reductions::wrapping::WrappingNumber;
 
-/// Wrapping arithmetic on single numbers. Both divisions and the modulus by 0 are 0.
+/// Wrapping arithmetic on single numbers. A quotient or modulus is 0 if the divisor is 0.
 pub trait PlNumArithmetic: DivisorNumber
     + WrappingNumber
     + Zero
@@ -22,12 +22,13 @@ pub trait PlNumArithmetic: DivisorNumber
     + WrappingSub
     + WrappingMul
     + WrappingNeg {
-    /// Returns the absolute value. The least number of a signed type stays.
+    /// Returns the absolute value. The least number of a signed type has none in the type, and is
+    /// returned unchanged.
     fn wrapping_abs(self) -> Self
         ensures { Self.value result
             ≡ wrapped Self.low (bit_len Self.width) (or_zero (magnitude_of (Self.value self))) };
 
-    /// Returns the quotient, rounded toward 0, or 0 for the divisor 0.
+    /// Returns the quotient rounded toward 0, or 0 if `rhs` is 0.
     fn wrapping_trunc_div(self, rhs: Self) -> Self
         ensures { Self.value result
             ≡ wrapped Self.low (bit_len Self.width)
@@ -72,7 +73,7 @@ pub trait PlNumArithmetic: DivisorNumber
         WrappingMul::wrapping_mul(&self, &rhs)
     }
 
-    /// Returns the quotient, rounded down, or 0 for the divisor 0.
+    /// Returns the quotient rounded down, or 0 if `rhs` is 0.
     #[inline(always)]
     final fn wrapping_floor_div(self, rhs: Self) -> Self
         ensures { Self.value result
@@ -90,7 +91,8 @@ pub trait PlNumArithmetic: DivisorNumber
         }
     }
 
-    /// Returns the remainder of the quotient that is rounded down, or 0 for the divisor 0.
+    /// Returns the modulus: the remainder of the division that rounds down. It is 0 or has the sign
+    /// of `rhs`. Returns 0 if `rhs` is 0.
     #[inline(always)]
     final fn wrapping_mod(self, rhs: Self) -> Self
         ensures { Self.value result
@@ -109,8 +111,7 @@ pub trait PlNumArithmetic: DivisorNumber
         }
     }
 
-    /// Returns the quotient, rounded down, or 0 for the divisor 0. Another name of
-    /// `wrapping_floor_div`.
+    /// Returns the quotient rounded down, or 0 if `rhs` is 0. Another name of `wrapping_floor_div`.
     #[inline(always)]
     final fn legacy_div(self, rhs: Self) -> Self
         ensures { Self.value result
@@ -121,7 +122,8 @@ pub trait PlNumArithmetic: DivisorNumber
     }
 }
 
-// Returns the remainder of a number, given its quotient rounded toward 0.
+// Returns `number - quotient * divisor`. `quotient` is `number / divisor`, rounded toward 0 and
+// wrapped.
 #[inline(always)]
 fn remainder<T: PlNumArithmetic>(number: T, divisor: T, quotient: T) -> T
     requires some { T.value divisor ≢ pos 0 }
@@ -145,7 +147,7 @@ fn is_negative<T: PlNumArithmetic>(number: T) -> bool
     number < T::zero()
 }
 
-// Returns whether a remainder and its divisor have different signs, and the remainder is not 0.
+// Returns whether a remainder is not 0 and has a sign different from that of its divisor.
 #[inline(always)]
 fn is_across<T: PlNumArithmetic>(rest: T, divisor: T) -> bool
     ensures { result ≡ across (T.value rest) (T.value divisor) }
@@ -153,6 +155,7 @@ fn is_across<T: PlNumArithmetic>(rest: T, divisor: T) -> bool
     (is_negative(rest) != is_negative(divisor)) & !rest.is_zero()
 }
 
+// In the signed types, `self.wrapping_abs()` is the method of the integer type, not of this trait.
 impl PlNumArithmetic for i8 {
     #[inline(always)]
     fn wrapping_abs(self) -> i8 {

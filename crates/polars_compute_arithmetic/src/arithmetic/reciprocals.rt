@@ -1,12 +1,14 @@
-//! Prepared natural divisors: a quotient is a product with the divisor's reciprocal, computed once.
+//! Prepared divisors of unsigned numbers. The reciprocal of a divisor is computed once. Each
+//! quotient is then a multiplication by the reciprocal and a shift.
 
 ghost use Rattle.std.specs.Prelude.{◌≡◌, ℕ, ◌+◌, ◌*◌, ◌/◌, ◌^◌, ◌<◌, ◌≤◌};
 ghost use Rattle.polars_compute_arithmetic.specs.Reciprocal.{reciprocal};
 
 use std::marker::Model;
 
-/// A divisor of up to 2^31 for numbers of up to 2^31. Contracts see the divisor. Its products have
-/// 64 bits, so loops over them are vectorized.
+/// A prepared divisor of at most 2^31, for numbers of at most 2^31. In contracts its value is the
+/// divisor. A division multiplies two numbers of 32 bits into 64 bits, so loops of divisions are
+/// vectorized.
 #[derive(Drop)]
 pub struct ShortReciprocal {
     divisor: u32,
@@ -25,7 +27,7 @@ impl Model for ShortReciprocal {
 }
 
 impl ShortReciprocal {
-    /// Prepares a divisor.
+    /// Prepares a divisor from 2 to 2^31.
     pub fn new(divisor: u32) -> ShortReciprocal
         requires some { 2 ≤ divisor }
         requires within { divisor ≤ 2 ^ 31 }
@@ -40,7 +42,7 @@ impl ShortReciprocal {
         }
     }
 
-    /// Returns the quotient, rounded down.
+    /// Returns `a` divided by the divisor, rounded down.
     #[inline(always)]
     pub fn divide(&self, a: u32) -> u32
         requires { a ≤ 2 ^ 31 }
@@ -51,7 +53,8 @@ impl ShortReciprocal {
     }
 }
 
-/// A divisor of up to 2^63 for numbers of up to 2^63. Contracts see the divisor.
+/// A prepared divisor of at most 2^63, for numbers of at most 2^63. In contracts its value is the
+/// divisor.
 #[derive(Drop)]
 pub struct ShortReciprocal64 {
     divisor: u64,
@@ -70,7 +73,7 @@ impl Model for ShortReciprocal64 {
 }
 
 impl ShortReciprocal64 {
-    /// Prepares a divisor.
+    /// Prepares a divisor from 2 to 2^63.
     pub fn new(divisor: u64) -> ShortReciprocal64
         requires some { 2 ≤ divisor }
         requires within { divisor ≤ 2 ^ 63 }
@@ -85,7 +88,7 @@ impl ShortReciprocal64 {
         }
     }
 
-    /// Returns the quotient, rounded down.
+    /// Returns `a` divided by the divisor, rounded down.
     #[inline(always)]
     pub fn divide(&self, a: u64) -> u64
         requires { a ≤ 2 ^ 63 }
@@ -96,8 +99,9 @@ impl ShortReciprocal64 {
     }
 }
 
-/// A divisor of 32 bits for numbers of 32 bits. Contracts see the divisor. The reciprocal has 33
-/// bits; the highest is 1 and is not stored, so products have 64 bits.
+/// A prepared divisor of 32 bits, for numbers of 32 bits. In contracts its value is the divisor.
+/// The reciprocal has 33 bits. Its highest bit is always 1 and is not stored, so that products have
+/// 64 bits.
 #[derive(Drop)]
 pub struct Reciprocal32 {
     divisor: u32,
@@ -117,7 +121,7 @@ impl Model for Reciprocal32 {
 }
 
 impl Reciprocal32 {
-    /// Prepares a divisor.
+    /// Prepares a divisor of at least 2.
     pub fn new(divisor: u32) -> Reciprocal32
         requires { 2 ≤ divisor }
         ensures { result ≡ divisor }
@@ -132,7 +136,7 @@ impl Reciprocal32 {
         }
     }
 
-    /// Returns the quotient, rounded down.
+    /// Returns `a` divided by the divisor, rounded down.
     #[inline(always)]
     pub fn divide(&self, a: u32) -> u32
         ensures { result ≡ a / self.now }
@@ -142,8 +146,8 @@ impl Reciprocal32 {
     }
 }
 
-/// A divisor of 64 bits for numbers of 64 bits. Contracts see the divisor. The reciprocal has 65
-/// bits; the highest is 1 and is not stored.
+/// A prepared divisor of 64 bits, for numbers of 64 bits. In contracts its value is the divisor.
+/// The reciprocal has 65 bits. Its highest bit is always 1 and is not stored.
 #[derive(Drop)]
 pub struct Reciprocal64 {
     divisor: u64,
@@ -163,7 +167,7 @@ impl Model for Reciprocal64 {
 }
 
 impl Reciprocal64 {
-    /// Prepares a divisor.
+    /// Prepares a divisor of at least 2.
     pub fn new(divisor: u64) -> Reciprocal64
         requires { 2 ≤ divisor }
         ensures { result ≡ divisor }
@@ -178,7 +182,7 @@ impl Reciprocal64 {
         }
     }
 
-    /// Returns the quotient, rounded down.
+    /// Returns `a` divided by the divisor, rounded down.
     #[inline(always)]
     pub fn divide(&self, a: u64) -> u64
         ensures { result ≡ a / self.now }
@@ -187,7 +191,7 @@ impl Reciprocal64 {
     }
 }
 
-// Returns the upper 64 bits of a product.
+// Returns the upper 64 bits of the product of two numbers of 64 bits.
 #[inline(always)]
 fn high_product(a: u64, factor: u64) -> u64
     ensures product { result ≡ a * factor / 2 ^ 64 }
@@ -196,7 +200,7 @@ fn high_product(a: u64, factor: u64) -> u64
     ((a as u128 * factor as u128) >> 64) as u64
 }
 
-// Returns half of the sum of two numbers, rounded down. The sum may have more than 64 bits.
+// Returns half of `a + b`, rounded down, also if `a + b` has more than 64 bits.
 #[inline(always)]
 fn half_sum(a: u64, b: u64) -> u64
     requires { b ≤ a }

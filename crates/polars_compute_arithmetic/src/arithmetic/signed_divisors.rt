@@ -1,4 +1,4 @@
-//! Prepared signed divisors, by the reciprocals of their magnitudes.
+//! Prepared divisors of signed numbers. Each stores the reciprocal of the divisor's absolute value.
 
 ghost use Rattle.std.specs.Prelude.{◌≡◌, ℤ, pos, ℕ, ◌+◌, ◌*◌, ◌≤◌, ◌<◌, ◌^◌, unsigned_abs};
 ghost use Rattle.std.specs.Prelude.{FitsSigned};
@@ -9,7 +9,7 @@ ghost use Rattle.polars_compute_arithmetic.specs.Quotients.{truncated_quotient};
 use crate::arithmetic::reciprocals::{ShortReciprocal, ShortReciprocal64};
 use std::marker::Model;
 
-/// A divisor of 16 bits. Contracts see the divisor.
+/// A prepared divisor of type `i16`. In contracts its value is the divisor.
 #[derive(Drop)]
 pub struct SignedDivisor16 {
     divisor: i16,
@@ -28,7 +28,7 @@ impl Model for SignedDivisor16 {
 }
 
 impl SignedDivisor16 {
-    /// Prepares a divisor.
+    /// Prepares a divisor other than 0, 1 and -1.
     pub fn new(divisor: i16) -> SignedDivisor16
         requires { 2 ≤ unsigned_abs divisor }
         ensures { result ≡ divisor }
@@ -41,7 +41,7 @@ impl SignedDivisor16 {
         }
     }
 
-    /// Returns the quotient, rounded down.
+    /// Returns `x` divided by the divisor, rounded down.
     #[inline(always)]
     pub fn divide_floor(&self, x: i16) -> i32
         ensures quotient { result ≡ floor_quotient x self.now }
@@ -51,8 +51,9 @@ impl SignedDivisor16 {
         self.divide_by_magnitude(if self.divisor > 0 { x } else { -x })
     }
 
-    // Returns the quotient by the divisor's magnitude, rounded down. To divide no negative number,
-    // it adds 2^15 times the magnitude, and subtracts 2^15 from the quotient.
+    // Returns `x` divided by the absolute value of the divisor, rounded down. The reciprocal only
+    // divides numbers of at least 0. So 2^15 times the absolute value is added to `x`, and 2^15 is
+    // subtracted from the quotient.
     #[inline(always)]
     fn divide_by_magnitude(&self, x: i32) -> i32
         requires { unsigned_abs x ≤ 2 ^ 15 }
@@ -62,7 +63,7 @@ impl SignedDivisor16 {
         self.magnitude.divide((x + self.offset) as u32) as i32 - (1 << 15)
     }
 
-    /// Returns the quotient, rounded toward 0.
+    /// Returns `x` divided by the divisor, rounded toward 0.
     #[inline(always)]
     pub fn divide_truncated(&self, x: i16) -> i32
         ensures quotient { result ≡ truncated_quotient x self.now }
@@ -73,7 +74,7 @@ impl SignedDivisor16 {
     }
 }
 
-/// A divisor of 32 bits. Contracts see the divisor.
+/// A prepared divisor of type `i32`. In contracts its value is the divisor.
 #[derive(Drop)]
 pub struct SignedDivisor32 {
     divisor: i32,
@@ -90,7 +91,7 @@ impl Model for SignedDivisor32 {
 }
 
 impl SignedDivisor32 {
-    /// Prepares a divisor.
+    /// Prepares a divisor other than 0, 1 and -1.
     pub fn new(divisor: i32) -> SignedDivisor32
         requires { 2 ≤ unsigned_abs divisor }
         ensures { result ≡ divisor }
@@ -101,7 +102,7 @@ impl SignedDivisor32 {
         }
     }
 
-    /// Returns the quotient, rounded down.
+    /// Returns `x` divided by the divisor, rounded down.
     #[inline(always)]
     pub fn divide_floor(&self, x: i32) -> i32
         ensures quotient { result ≡ floor_quotient x self.now }
@@ -113,7 +114,7 @@ impl SignedDivisor32 {
         if below { -1 - q } else { q }
     }
 
-    /// Returns the quotient, rounded toward 0.
+    /// Returns `x` divided by the divisor, rounded toward 0.
     #[inline(always)]
     pub fn divide_truncated(&self, x: i32) -> i32
         ensures quotient { result ≡ truncated_quotient x self.now }
@@ -124,7 +125,7 @@ impl SignedDivisor32 {
     }
 }
 
-/// A divisor of 64 bits. Contracts see the divisor.
+/// A prepared divisor of type `i64`. In contracts its value is the divisor.
 #[derive(Drop)]
 pub struct SignedDivisor64 {
     divisor: i64,
@@ -141,7 +142,7 @@ impl Model for SignedDivisor64 {
 }
 
 impl SignedDivisor64 {
-    /// Prepares a divisor.
+    /// Prepares a divisor other than 0, 1 and -1.
     pub fn new(divisor: i64) -> SignedDivisor64
         requires { 2 ≤ unsigned_abs divisor }
         ensures { result ≡ divisor }
@@ -152,7 +153,7 @@ impl SignedDivisor64 {
         }
     }
 
-    /// Returns the quotient, rounded down.
+    /// Returns `x` divided by the divisor, rounded down.
     #[inline(always)]
     pub fn divide_floor(&self, x: i64) -> i64
         ensures { result ≡ floor_quotient x self.now }
@@ -163,7 +164,7 @@ impl SignedDivisor64 {
         if below { -1 - q } else { q }
     }
 
-    /// Returns the quotient, rounded toward 0.
+    /// Returns `x` divided by the divisor, rounded toward 0.
     #[inline(always)]
     pub fn divide_truncated(&self, x: i64) -> i64
         ensures { result ≡ truncated_quotient x self.now }

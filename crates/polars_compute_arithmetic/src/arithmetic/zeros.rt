@@ -1,4 +1,4 @@
-//! Masks of zero divisors.
+//! Masks divisors that are 0, so that a division by them is null.
 
 ghost use Rattle.std.specs.Prelude.{◌≡◌, length, replicate, false, Some, MatchResult};
 ghost use Rattle.polars_arrays_bits.specs.Errors.{IsMemory};
@@ -15,7 +15,8 @@ use polars_arrays_numbers::native_type::NativeType;
 use polars_compare_equality::kernel::TotalEqKernel;
 use std::alloc::Global;
 
-// Masks the rows that are 0. The error is `Memory`.
+// Returns the divisors with each row that is 0 masked as well. The stored values are unchanged. The
+// error is `Memory`.
 pub(crate) fn mask_zeros<T: NativeType + Zero>(
     alloc: Global,
     divisors: PrimitiveArray<T>,
@@ -32,8 +33,8 @@ pub(crate) fn mask_zeros<T: NativeType + Zero>(
     }
 }
 
-// Returns the validity in which rows that are 0 are masked too, and removes the existing one. The
-// error is `Memory`.
+// Returns the validity of the divisors, with each row that is 0 masked as well. Takes the existing
+// validity out of the array, and leaves its values unchanged. The error is `Memory`.
 fn nonzero_validity<T: NativeType + Zero>(
     alloc: Global,
     divisors: &mut PrimitiveArray<T>,
@@ -48,7 +49,7 @@ fn nonzero_validity<T: NativeType + Zero>(
     Ok(validity)
 }
 
-// Masks all rows. The error is `Memory`.
+// Returns the array with all rows null. The stored values are unchanged. The error is `Memory`.
 pub(crate) fn mask_all<T: NativeType>(
     alloc: Global,
     array: PrimitiveArray<T>,
