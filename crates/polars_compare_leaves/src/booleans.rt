@@ -1,4 +1,4 @@
-//! Comparisons of stored truth values, 64 at a time, whatever the validity.
+//! Comparisons of stored truth values, 64 at a time. Validities are not read.
 
 ghost use Rattle.std.specs.Prelude.{◌≡◌, ◌+◌, ◌≤◌, Bool, length, map, MatchResult};
 ghost use Rattle.std.specs.Simd.Lanes.{zip2};
@@ -20,17 +20,18 @@ use polars_arrays_numbers::comparison::{
 };
 use std::alloc::Global;
 
-/// One of the six comparisons (equal, unequal, less and so on) of truth values.
+/// A comparison of two truth values: `Equal`, `Unequal`, `Less`, `LessOrEqual`, `Greater` or
+/// `GreaterOrEqual`. `false` is less than `true`.
 pub trait TruthComparison {
-    // Its meaning: the comparison of two rows.
+    // The comparison as a relation of two rows.
     ghost rows: { Row → Row → Bool };
 
-    /// Returns whether the comparison holds of two truth values.
+    /// Returns whether the comparison holds for two truth values.
     fn compare(&self, left: bool, right: bool) -> bool
         ensures { result ≡ rows (Truth left) (Truth right) };
 
-    /// Returns a bitmap with a bit for each place of two windows of equal length, set where the
-    /// comparison holds of the two bits. The error is `Memory`.
+    /// Returns a bit for each index `i`: 1 if the comparison holds for bit `i` of the left mask and
+    /// bit `i` of the right one. Both have the same length. The error is `Memory`.
     fn compare_bits(
         &self,
         alloc: Global,
@@ -144,8 +145,8 @@ impl TruthComparison for GreaterOrEqual {
     }
 }
 
-/// Compares `n` stored rows from row `a` on of the left array with those from row `b` on of the
-/// right one, place by place. The error is `Memory`.
+/// Returns a bit for each `i` below `n`: 1 if the comparison holds for the stored row `a + i` of
+/// the left array and the stored row `b + i` of the right one. The error is `Memory`.
 pub fn compare_truth_windows<E: TruthComparison>(
     alloc: Global,
     comparison: &E,
@@ -166,7 +167,8 @@ pub fn compare_truth_windows<E: TruthComparison>(
     comparison.compare_bits(alloc, &left, &right)
 }
 
-/// Compares each stored row with a truth value. The error is `Memory`.
+/// Returns a bit for each stored row: 1 if the comparison holds for the row and the truth value
+/// `right`. The error is `Memory`.
 pub fn compare_truth<E: TruthComparison>(
     alloc: Global,
     comparison: &E,

@@ -1,4 +1,4 @@
-//! Comparisons of stored byte strings, place by place, whatever the validity.
+//! Comparisons of stored byte strings. Validities are not read.
 
 ghost use Rattle.std.specs.Prelude.{◌≡◌, ◌+◌, ◌^◌, ◌<◌, ◌≤◌, Bool, length, map, take, MatchResult};
 ghost use Rattle.std.specs.Simd.Lanes.{zip2};
@@ -22,16 +22,19 @@ use polars_arrays_numbers::comparison::{
 };
 use std::alloc::Global;
 
-/// A comparison of two byte strings that is a comparison of their rows.
+/// A comparison of two byte strings: `Equal`, `Unequal`, `Less`, `LessOrEqual`, `Greater` or
+/// `GreaterOrEqual`. Byte strings are ordered byte by byte.
 pub trait ByteComparison {
-    // The comparison of rows.
+    // The comparison as a relation of two rows.
     ghost rows: { Row → Row → Bool };
 
-    /// Returns whether the comparison holds of two byte strings.
+    /// Returns whether the comparison holds for two byte strings.
     fn compare(&self, left: &[u8], right: &[u8]) -> bool
         ensures { result ≡ rows (Bytes left.now) (Bytes right.now) };
 
-    /// Compares two byte strings, in a form for one right string and many left ones.
+    /// Returns whether the comparison holds for two byte strings. Loops that compare many left
+    /// strings with one right string call this form, which may be faster in such a loop than
+    /// `compare`.
     #[inline(always)]
     fn compare_constant(&self, left: &[u8], right: &[u8]) -> bool
         ensures { result ≡ rows (Bytes left.now) (Bytes right.now) }
@@ -39,8 +42,9 @@ pub trait ByteComparison {
         self.compare(left, right)
     }
 
-    /// Compares the first `n` bytes of one slice with the first `m` bytes of another one. Short
-    /// strings are compared as one block each, if both slices are long enough.
+    /// Returns whether the comparison holds for the first `n` bytes of `left` and the first `m`
+    /// bytes of `right`. If `n` and `m` are at most 16, and both slices have at least 16 bytes,
+    /// these are compared as one block of 16 bytes each, which is faster.
     fn compare_on(&self, left: &[u8], n: usize, right: &[u8], m: usize) -> bool
         requires left_in { n ≤ length left.now }
         requires right_in { m ≤ length right.now }
@@ -141,7 +145,8 @@ impl ByteComparison for GreaterOrEqual {
     }
 }
 
-// A comparison of `n` byte strings from place `a` on with those from place `b` on, place by place.
+// The results of a comparison of `n` pairs of byte strings: string `a + i` of the left array and
+// string `b + i` of the right one.
 #[derive(Drop)]
 struct StringPairs<'a, L: ByteRows, R: ByteRows, E> {
     comparison: &'a E,
@@ -178,8 +183,8 @@ impl<'a, L: ByteRows, R: ByteRows, E: ByteComparison> TruthValues for StringPair
     }
 }
 
-/// Compares `n` stored byte strings from place `a` on of the left array with those from place `b`
-/// on of the right one, place by place. The error is `Memory`.
+/// Returns a bit for each `i` below `n`: 1 if the comparison holds for the stored byte string `a +
+/// i` of the left array and the stored byte string `b + i` of the right one. The error is `Memory`.
 #[inline]
 pub fn compare_byte_windows<L: ByteRows, R: ByteRows, E: ByteComparison>(
     alloc: Global,
@@ -210,7 +215,7 @@ pub fn compare_byte_windows<L: ByteRows, R: ByteRows, E: ByteComparison>(
     Bitmap::from_values(alloc, &pairs)
 }
 
-// A comparison of byte strings with one byte string.
+// The results of a comparison of each byte string of an array with the byte string `right`.
 #[derive(Drop)]
 struct StringsAgainst<'a, L, E> {
     comparison: &'a E,
@@ -239,7 +244,7 @@ impl<'a, L: ByteRows, E: ByteComparison> TruthValues for StringsAgainst<'a, L, E
     }
 }
 
-// A comparison of byte strings with the first `m` bytes of a block.
+// The results of a comparison of each byte string of an array with the first `m` bytes of `block`.
 #[derive(Drop)]
 struct StringsOnBlock<'a, L, E> {
     comparison: &'a E,
@@ -270,8 +275,9 @@ impl<'a, L: ByteRows, E: ByteComparison> TruthValues for StringsOnBlock<'a, L, E
     }
 }
 
-/// Compares each stored row with a byte string. A short string is read as one block, as short rows
-/// are. The error is `Memory`.
+/// Returns a bit for each stored row: 1 if the comparison holds for the row and the byte string
+/// `right`. If `right` has at most 16 bytes, it is copied to a block of 16 bytes, so that it is
+/// compared with a short row as one block. The error is `Memory`.
 pub fn compare_bytes<L: ByteRows, E: ByteComparison>(
     alloc: Global,
     comparison: &E,

@@ -1,4 +1,4 @@
-//! Kernels over views that count the rows they look up in buffers.
+//! The trait `FollowedKernel`: comparisons of views that count the rows looked up in buffers.
 
 ghost use Rattle.std.specs.Prelude.{◌≡◌, ◌≤◌, ◌+◌, length, IfOk, MatchResult};
 ghost use Rattle.polars_arrays_bits.specs.Errors.{IsMemory};
@@ -18,13 +18,16 @@ use polars_arrays_views::binary_view::BinaryViewArray;
 use polars_arrays_views::text_view::Utf8ViewArray;
 use std::alloc::Global;
 
-/// Comparisons of arrays of views. The counter increases by one for each row, null or not, whose
-/// bytes are looked up in a buffer: for equality, if the lengths are equal and above 12 and the
-/// first four bytes agree; for order, if the first four bytes agree, padded with zeros, and one row
-/// is longer than 12. Validities have no effect. The error is `Memory`; the counter may then have
-/// increased.
+/// Comparisons of arrays of views that count the pairs of rows whose bytes they look up in a
+/// buffer, null or not. Each such pair adds 1 to the counter.
+///
+/// Equality looks up the bytes of two rows if their lengths are equal and above 12, and their first
+/// four bytes are equal. Order looks up the bytes if their first four bytes, padded with zeros, are
+/// equal, and at least one row is longer than 12 bytes. Validities are not read. The error is
+/// `Memory`; the counter may have increased by then.
 pub trait FollowedKernel: ByteRows + Sized {
-    /// Returns for each place whether the stored rows are equal.
+    /// Returns a bit for each index `i`: 1 if the stored row `i` of `self` is equal to the stored
+    /// row `i` of `other`.
     fn tot_eq_kernel_followed(
         &self,
         alloc: Global,
@@ -41,7 +44,8 @@ pub trait FollowedKernel: ByteRows + Sized {
             (length (Self.strings self.now))) }
         ensures kept { steps.old ≤ steps.new };
 
-    /// Returns for each place whether the stored row is less than the other one.
+    /// Returns a bit for each index `i`: 1 if the stored row `i` of `self` is less than the stored
+    /// row `i` of `other`.
     fn tot_lt_kernel_followed(
         &self,
         alloc: Global,

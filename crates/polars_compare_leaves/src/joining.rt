@@ -1,4 +1,5 @@
-//! The join of raw truth values with two masks, which decides how nulls compare.
+//! Combines the raw truth values of a comparison with the masks of both sides, which decides how
+//! nulls compare.
 
 ghost use Rattle.std.specs.Prelude.{◌≡◌, Bool, List, length, MatchResult};
 ghost use Rattle.polars_arrays_bits.specs.Bits.{zip3};
@@ -14,15 +15,15 @@ use polars_arrays_bits::packing::TruthValues;
 use polars_arrays_flat::mask::Mask;
 use std::alloc::Global;
 
-/// The meaning of a comparison's set bits: rows that are equal, or rows that are unequal.
+/// The meaning of a set bit in the result of a comparison: two rows are equal, or unequal.
 #[derive(Clone, Copy, Debug, PartialEq, Eq)]
 pub enum Relation {
     Equal,
     Unequal,
 }
 
-/// The raw truth values of a comparison: a bitmap, or values that are packed while they are read.
-/// Implementations only combine bits; `join_masks` decides for all what null is equal to.
+/// The raw truth values of a comparison: a bitmap, or values that are packed into words while they
+/// are read. Implementations only combine bits. What null is equal to is decided in `join_masks`.
 pub trait RawValues {
     // The truth values, the first one first.
     ghost values: { Self → List Bool };
@@ -31,8 +32,9 @@ pub trait RawValues {
     fn into_bitmap(self, alloc: Global) -> Result<Bitmap, ComputeError>
         ensures { MatchResult result (λ bits. bits ≡ values self) IsMemory };
 
-    /// Returns `(q & l & r) | !(l | r)` of each truth value `q` and the bits `l` and `r` at its
-    /// place. The error is `Memory`.
+    /// Returns a bitmap of `(q & l & r) | !(l | r)` for each truth value `q` and the bits `l` and
+    /// `r` of the masks at its index. If `q` says that two rows are equal, and masks say which rows
+    /// are present, this is missing equality. The error is `Memory`.
     fn merge_eq(
         self,
         alloc: Global,
@@ -44,8 +46,9 @@ pub trait RawValues {
         ensures { MatchResult result
             (λ bits. bits ≡ zip3 merged_eq (values self) left.now right.now) IsMemory };
 
-    /// Returns `(q & l & r) | (l ^ r)` of each truth value `q` and the bits `l` and `r` at its
-    /// place. The error is `Memory`.
+    /// Returns a bitmap of `(q & l & r) | (l ^ r)` for each truth value `q` and the bits `l` and
+    /// `r` of the masks at its index. If `q` says that two rows are unequal, and masks say which
+    /// rows are present, this is missing inequality. The error is `Memory`.
     fn merge_ne(
         self,
         alloc: Global,
@@ -58,7 +61,7 @@ pub trait RawValues {
             (λ bits. bits ≡ zip3 merged_ne (values self) left.now right.now) IsMemory };
 }
 
-// Changes a bitmap in place if it owns its words.
+// Changes the bitmap in place if it owns its words, and a copy of it otherwise.
 impl RawValues for Bitmap {
     ghost values = { λ bits. bits };
 
@@ -90,8 +93,8 @@ impl RawValues for Bitmap {
     }
 }
 
-// Merges truth values with two masks while they are packed, a word at a time, without a bitmap of
-// raw bits.
+// Packs truth values into words, and combines each word with the masks before it is stored, so that
+// no bitmap of raw bits is needed.
 impl<V: TruthValues> RawValues for &V {
     ghost values = { λ raw. V.values raw.now };
 
@@ -121,7 +124,8 @@ impl<V: TruthValues> RawValues for &V {
     }
 }
 
-// Joins raw truth values with the mask of one side. All rows of the other side are present.
+// Combines raw truth values with the mask of one side. All rows of the other side are present. The
+// error is `Memory`.
 fn join_one<R: RawValues>(
     alloc: Global,
     relation: Relation,
@@ -143,7 +147,7 @@ fn join_one<R: RawValues>(
     Ok(bits.freeze())
 }
 
-// Joins raw truth values with the masks of both sides.
+// Combines raw truth values with the masks of both sides. The error is `Memory`.
 #[inline(always)]
 fn join_both<R: RawValues>(
     alloc: Global,
@@ -163,9 +167,10 @@ fn join_both<R: RawValues>(
     }
 }
 
-/// Joins the raw truth values of a comparison with the masks of both sides, if any; windows of
-/// masks are passed. A row that is present on both sides keeps its bit. Two nulls are equal, and a
-/// null and a present row are not. The error is `Memory`.
+/// Combines the raw truth values of a comparison with the masks of both sides, and returns the bits
+/// of missing equality or inequality. `relation` says which of the two was compared. A side without
+/// a mask has no nulls. If both rows are present, their bit stays the same. Two nulls are equal,
+/// and a null and a present row are not. The error is `Memory`.
 #[inline(always)]
 pub fn join_masks<R: RawValues>(
     alloc: Global,
@@ -187,7 +192,8 @@ pub fn join_masks<R: RawValues>(
     }
 }
 
-/// Joins raw truth values with the masks of whole arrays or of windows. The error is `Memory`.
+/// Combines the raw truth values of a comparison with the masks of both sides, as `join_masks`
+/// does. The masks may be those of windows. The error is `Memory`.
 #[inline(always)]
 pub fn join_nulls<R: RawValues>(
     alloc: Global,

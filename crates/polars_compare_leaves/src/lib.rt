@@ -1,8 +1,8 @@
-//! Comparisons of the stored rows of arrays of one level, and the join that decides how nulls
-//! compare.
+//! Comparisons of the stored rows of arrays that are not nested. The module `joining` combines
+//! their results with masks, which decides how nulls compare.
 //!
-//! Comparisons of views read buffers only if length and prefix do not decide, and count each pair
-//! for which they do.
+//! Comparisons of two rows in views read a buffer only if the lengths and the prefixes (first four
+//! bytes) don't decide. They count the pairs of rows for which they read a buffer.
 #![tactic(auto)]
 
 pub mod booleans;

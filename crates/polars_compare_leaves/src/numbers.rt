@@ -1,4 +1,4 @@
-//! Comparisons of stored numbers, place by place, whatever the validity.
+//! Comparisons of stored numbers. Validities are not read.
 
 ghost use Rattle.std.specs.Prelude.{◌≡◌, ℕ, ◌+◌, ◌<◌, ◌≤◌, false, ◌&&◌, length, map, MatchResult};
 ghost use Rattle.std.specs.Simd.Lanes.{zip2};
@@ -20,8 +20,8 @@ use polars_arrays_flat::primitive::PrimitiveArray;
 use polars_arrays_numbers::native_type::NativeType;
 use std::alloc::Global;
 
-/// Compares `n` stored rows from row `a` on of the left array with those from row `b` on of the
-/// right one, place by place. The error is `Memory`.
+/// Returns a bit for each `i` below `n`: 1 if the comparison holds for the stored row `a + i` of
+/// the left array and the stored row `b + i` of the right one. The error is `Memory`.
 pub fn compare_number_windows<T: NativeType, E: RowComparison<T>>(
     alloc: Global,
     comparison: &E,
@@ -45,8 +45,9 @@ pub fn compare_number_windows<T: NativeType, E: RowComparison<T>>(
     Bitmap::from_values(alloc, &pairs)
 }
 
-/// Compares at most 64 stored rows of two windows, place by place. The results are the bits of a
-/// word, the first row lowest, with zeros above them. Does not allocate.
+/// Returns a word whose bit `i` is 1 if the comparison holds for the stored row `a + i` of the left
+/// array and the stored row `b + i` of the right one, for each `i` below `n`, which is at most 64.
+/// All other bits are 0. Does not allocate.
 #[inline(always)]
 pub fn compare_few_numbers<T: NativeType, E: RowComparison<T>>(
     comparison: &E,
@@ -68,8 +69,9 @@ pub fn compare_few_numbers<T: NativeType, E: RowComparison<T>>(
     compare_few(comparison, &left[a..a + n], &right[b..b + n])
 }
 
-/// Sets each bit to its AND with the comparison of the stored rows at its place in two windows. The
-/// first bit is that of row `a` of the left array and row `b` of the right one. Does not allocate.
+/// Compares the stored rows of two windows, and clears the bits of rows for which the comparison
+/// doesn't hold. Bit `i` is that of row `a + i` of the left array and row `b + i` of the right one.
+/// Does not allocate.
 pub fn and_number_windows<T: NativeType, E: RowComparison<T>>(
     bits: &mut MutableBitmap,
     comparison: &E,
@@ -89,9 +91,9 @@ pub fn and_number_windows<T: NativeType, E: RowComparison<T>>(
     and_pairs(bits, comparison, &left[a..a + n], &right[b..b + n]);
 }
 
-/// Compares the stored rows of two arrays of equal length, place by place, and joins the results
-/// with the masks of both sides. `relation` says what a set bit of the comparison means. The error
-/// is `Memory`.
+/// Compares the stored rows of two arrays of equal length, and combines the results with the masks
+/// of both sides. Returns the bits of missing equality or inequality; `relation` says which of the
+/// two `comparison` is. The error is `Memory`.
 #[inline(always)]
 pub fn join_numbers<T: NativeType, E: RowComparison<T>>(
     alloc: Global,
@@ -117,8 +119,8 @@ pub fn join_numbers<T: NativeType, E: RowComparison<T>>(
     join_nulls(alloc, relation, &pairs, left_mask, right_mask)
 }
 
-/// Returns a bit for each stored row, set where the comparison holds of it and the number. The
-/// error is `Memory`.
+/// Returns a bit for each stored row: 1 if the comparison holds for the row and the number `right`.
+/// The error is `Memory`.
 pub fn compare_number<T: NativeType, E: RowComparison<T>>(
     alloc: Global,
     comparison: &E,

@@ -1,4 +1,4 @@
-//! Comparisons of two numbers as comparisons of their rows.
+//! The trait `RowComparison`: comparisons of two numbers, as relations of two rows.
 
 ghost use Rattle.std.specs.Prelude.{◌≡◌, Bool, refl};
 ghost use Rattle.polars_arrays_flat.specs.Row.{Row, Int};
@@ -12,12 +12,13 @@ use polars_arrays_numbers::comparison::{
 };
 use polars_arrays_numbers::native_type::NativeType;
 
-/// A comparison of two numbers of one type that is a comparison of their rows.
+/// A comparison of two numbers of one type: `Equal`, `Unequal`, `Less`, `LessOrEqual`, `Greater` or
+/// `GreaterOrEqual`.
 pub trait RowComparison<T: NativeType>: Comparison<T, T> {
-    // The comparison of rows.
+    // The comparison as a relation of two rows.
     ghost rows: { Row → Row → Bool };
 
-    // It holds of two numbers exactly if it holds of their rows.
+    // The comparison holds for two numbers exactly if the relation holds for their rows.
     ghost rows_law: { (comparison : Self) (l r : T) → Self.holds comparison l r
         ≡ rows (Int (T.value l)) (Int (T.value r)) };
 }

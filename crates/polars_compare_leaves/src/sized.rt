@@ -1,4 +1,4 @@
-//! Comparisons of stored byte strings of one size, place by place, whatever the validity.
+//! Comparisons of stored byte strings of fixed size. Validities are not read.
 
 ghost use Rattle.std.specs.Prelude.{◌≡◌, ◌+◌, ◌≤◌, length, MatchResult};
 ghost use Rattle.std.specs.Simd.Lanes.{zip2};
@@ -14,12 +14,13 @@ use polars_arrays_bytes::fixed_size::FixedSizeBinaryArray;
 use polars_arrays_bytes::of_size::OfSize;
 use std::alloc::Global;
 
-// Number of bytes of strings for which the loop is compiled separately: UUIDs and 128-bit numbers.
+// Size in bytes of UUIDs and of numbers of 128 bits. The loop over strings of this size is compiled
+// separately, with the size as a constant.
 const UUID_SIZE: usize = 16;
 
-/// Compares `n` stored byte strings from place `a` on of the left array with those from place `b`
-/// on of the right one, place by place. The strings of the two arrays may have different sizes. The
-/// error is `Memory`.
+/// Returns a bit for each `i` below `n`: 1 if the comparison holds for the stored byte string `a +
+/// i` of the left array and the stored byte string `b + i` of the right one. The strings of the two
+/// arrays may have different sizes. The error is `Memory`.
 pub fn compare_sized_windows<E: ByteComparison>(
     alloc: Global,
     comparison: &E,

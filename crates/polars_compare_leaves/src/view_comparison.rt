@@ -1,4 +1,4 @@
-//! Comparisons of two rows of arrays of views.
+//! The trait `ViewComparison`: comparisons of two rows of arrays of views.
 
 ghost use Rattle.std.specs.Prelude.{◌≡◌, ◌<◌, ◌+◌, ℕ, Bool, List, [], IsTrue, false, if◌then◌else◌};
 ghost use Rattle.std.specs.Prelude.{length, slice_index_or};
@@ -22,19 +22,21 @@ use polars_arrays_views::rows::{
 use polars_arrays_views::scalar::ScalarRow;
 use polars_arrays_views::view::View;
 
-/// A comparison of two byte strings in views that is a comparison of their rows.
+/// A comparison of two byte strings in views: `Equal`, `Unequal`, `Less`, `LessOrEqual`, `Greater`
+/// or `GreaterOrEqual`.
 pub trait ViewComparison {
-    // The comparison of rows.
+    // The comparison as a relation of two rows.
     ghost rows: { Row → Row → Bool };
 
-    // Pairs of byte strings whose comparison reads buffers.
+    // True for two byte strings whose comparison reads a buffer.
     ghost follows: { List ℕ → List ℕ → Bool };
 
-    // Pairs of views for which a guess is sure to be right.
+    // True for two views for which the guess is right.
     ghost sure: { List ℕ → List ℕ → Bool };
 
-    /// Compares row `i` of one array with row `j` of another, masked or not. The counter increases
-    /// by one if the comparison reads buffers.
+    /// Returns whether the comparison holds for row `i` of the left array and row `j` of the right
+    /// one. Masked rows are compared by their stored bytes. The counter increases by one if a
+    /// buffer is read.
     fn compare(
         &self,
         left: &BinaryViewArray,
@@ -52,15 +54,15 @@ pub trait ViewComparison {
             ≡ steps.old + (if follows (slice_index_or (view_strings left.now) i [])
             (slice_index_or (view_strings right.now) j []) then 1 else 0) };
 
-    /// Guesses the comparison of the rows of two views. If `is_sure`, the guess is right; otherwise
-    /// it may be wrong.
+    /// Guesses from two views, without a buffer, whether the comparison holds for their rows. If
+    /// `is_sure` is true for the two views, the guess is right; otherwise it may be wrong.
     fn guess(&self, v: &View, w: &View) -> bool
         ensures { (buffers others : List (List ℕ)) → GoodView buffers v.now → GoodView others w.now
             → IsTrue (sure v.now w.now) → result
             ≡ rows (Bytes (row_bytes buffers v.now)) (Bytes (row_bytes others w.now)) };
 
-    /// Returns whether the guess for two views is sure to be right. Their comparison then reads no
-    /// buffer.
+    /// Returns whether the guess for two views is sure to be right. If the result is `true`, the
+    /// comparison of the two rows reads no buffer. The default is `false`.
     #[inline(always)]
     fn is_sure(&self, _v: &View, _w: &View) -> bool
         ensures sure { IsTrue result → IsTrue (sure _v.now _w.now) }
@@ -71,7 +73,8 @@ pub trait ViewComparison {
         false
     }
 
-    /// Returns whether the comparison holds of row `i`, masked or not, and a byte string.
+    /// Returns whether the comparison holds for row `i` and the byte string `right`. A masked row
+    /// is compared by its stored bytes.
     fn compare_bytes(&self, left: &BinaryViewArray, i: usize, right: &ScalarRow) -> bool
         requires { i < length left.now.views }
         ensures { result

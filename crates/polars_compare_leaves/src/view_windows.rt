@@ -1,4 +1,4 @@
-//! Comparisons of stored rows of arrays of views, place by place, whatever the validity.
+//! Comparisons of stored rows of arrays of views. Validities are not read.
 
 ghost use Rattle.std.specs.Prelude.{◌≡◌, ◌+◌, ◌^◌, ◌<◌, ◌≤◌, length, map, slice_index_or, [], IfOk};
 ghost use Rattle.std.specs.Prelude.{MatchResult};
@@ -24,8 +24,9 @@ use polars_arrays_views::scalar::ScalarRow;
 use polars_arrays_views::view::View;
 use std::alloc::Global;
 
-// A comparison of `n` rows from row `a` on with those from row `b` on, place by place. It holds the
-// slices of views beside the arrays, so that they are not looked up for each row.
+// The results of a comparison of `n` pairs of rows: row `a + i` of the left array and row `b + i`
+// of the right one. The slices of views are stored besides the arrays, so that a loop doesn't fetch
+// them for each row.
 #[derive(Drop)]
 struct ViewPairs<'a, E> {
     comparison: &'a E,
@@ -47,7 +48,7 @@ struct ViewPairs<'a, E> {
 }
 
 impl<'a, E: ViewComparison> ViewPairs<'a, E> {
-    // Returns the views of the pair at place `i`.
+    // Returns the two views of pair `i`.
     #[inline(always)]
     fn views_at(&self, i: usize) -> (&View, &View)
         requires { i < self.now.n }
@@ -99,9 +100,9 @@ impl<'a, E: ViewComparison> CountedValues for ViewPairs<'a, E> {
     }
 }
 
-/// Compares `n` stored rows from row `a` on of the left array with those from row `b` on of the
-/// right one, place by place. The counter increases by one for each pair whose comparison reads
-/// buffers. The error is `Memory`.
+/// Returns a bit for each `i` below `n`: 1 if the comparison holds for the stored row `a + i` of
+/// the left array and the stored row `b + i` of the right one. `steps` increases by one for each
+/// pair whose comparison reads a buffer. The error is `Memory`.
 pub fn compare_view_windows<E: ViewComparison>(
     alloc: Global,
     comparison: &E,
@@ -137,7 +138,7 @@ pub fn compare_view_windows<E: ViewComparison>(
     Bitmap::from_counted(alloc, &pairs, steps)
 }
 
-// A comparison of the rows of an array with one byte string.
+// The results of a comparison of each row of an array with the byte string `right`.
 #[derive(Drop)]
 struct ViewsAgainst<'a, E> {
     comparison: &'a E,
@@ -165,8 +166,8 @@ impl<'a, E: ViewComparison> TruthValues for ViewsAgainst<'a, E> {
     }
 }
 
-/// Returns a bit for each stored row, set where the comparison holds of it and the byte string. The
-/// error is `Memory`.
+/// Returns a bit for each stored row: 1 if the comparison holds for the row and the byte string
+/// `right`. The error is `Memory`.
 pub fn compare_view_bytes<E: ViewComparison>(
     alloc: Global,
     comparison: &E,

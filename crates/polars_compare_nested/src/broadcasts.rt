@@ -1,4 +1,4 @@
-//! Comparisons of lists with one list, given as an array of its items.
+//! Compares each list of an array with one list, which is given as an array of its items.
 
 ghost use Rattle.std.specs.Prelude.{◌≡◌, ◌+◌, ◌≤◌, MatchResult};
 ghost use Rattle.polars_arrays_bits.specs.Errors.{IsMemory};
@@ -26,8 +26,8 @@ use polars_arrays_nested::list::ListArray;
 use polars_arrays_numbers::steps::Steps;
 use std::alloc::Global;
 
-// Returns whether the `count` items from item `from` on are exactly the rows of an array, in order.
-// The error is `Memory`.
+// Returns whether the `count` items from item `from` on are exactly the rows of `rows`, in order.
+// Null is equal to null alone. The error is `Memory`.
 fn are_all_rows(
     alloc: Global,
     items: &AnyArray,
@@ -51,7 +51,7 @@ fn are_all_rows(
     Ok(BitMask::from_bitmap(&same).all_set(0, count))
 }
 
-/// Returns for each list whether its items are exactly the rows of an array, in order. Masked lists
+/// Returns a bit for each list: 1 if its items are exactly the rows of `rows`, in order. Null lists
 /// are compared by their stored items. The error is `Memory`.
 pub fn list_broadcast(
     alloc: Global,
@@ -76,8 +76,8 @@ pub fn list_broadcast(
     Ok(bits.freeze())
 }
 
-/// Returns for each list of one width whether its items are exactly the rows of an array, in order.
-/// Masked lists are compared by their stored items. The error is `Memory`.
+/// Returns a bit for each list of fixed size: 1 if its items are exactly the rows of `rows`, in
+/// order. Null lists are compared by their stored items. The error is `Memory`.
 pub fn fixed_size_list_broadcast(
     alloc: Global,
     lists: &FixedSizeListArray,

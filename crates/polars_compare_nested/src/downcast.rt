@@ -1,4 +1,4 @@
-//! Downcasts: the array inside an `AnyArray` whose kind is known from another array of its type.
+//! Functions that return the array inside an `AnyArray` whose kind is known.
 #![tactic(auto, using(crate::proofs::Cases::cases))]
 
 ghost use Rattle.std.specs.Prelude.{◌≡◌, IsTrue};
@@ -14,7 +14,7 @@ use polars_arrays_nested::fixed_size_list::FixedSizeListArray;
 use polars_arrays_nested::list::ListArray;
 use polars_arrays_nested::struct_array::StructArray;
 
-/// Returns the array inside, which must be of this kind.
+/// Returns the array inside an `AnyArray`, which must be of the given kind.
 macro_rules! downcast {
     ($array:expr, $kind:ident) => {
         match $array {
@@ -26,6 +26,7 @@ macro_rules! downcast {
 
 pub(crate) use downcast;
 
+/// Returns the list array inside. The array must be a list array.
 #[inline]
 pub(crate) fn as_list(array: &AnyArray) -> &ListArray
     requires { IsTrue (is_list (type_of array.now)) }
@@ -34,6 +35,7 @@ pub(crate) fn as_list(array: &AnyArray) -> &ListArray
     downcast!(array, List)
 }
 
+/// Returns the fixed-size list array inside. The array must be a fixed-size list array.
 #[inline]
 pub(crate) fn as_fixed_size_list(array: &AnyArray) -> &FixedSizeListArray
     requires { IsTrue (is_fixed_list (type_of array.now)) }
@@ -42,6 +44,7 @@ pub(crate) fn as_fixed_size_list(array: &AnyArray) -> &FixedSizeListArray
     downcast!(array, FixedSizeList)
 }
 
+/// Returns the struct array inside. The array must be a struct array.
 #[inline]
 pub(crate) fn as_struct(array: &AnyArray) -> &StructArray
     requires { IsTrue (is_struct (type_of array.now)) }
@@ -50,6 +53,7 @@ pub(crate) fn as_struct(array: &AnyArray) -> &StructArray
     downcast!(array, Struct)
 }
 
+/// Returns the dictionary array inside. The array must be a dictionary array.
 #[inline]
 pub(crate) fn as_dictionary(array: &AnyArray) -> &DictionaryArray
     requires { IsTrue (is_dictionary (type_of array.now)) }

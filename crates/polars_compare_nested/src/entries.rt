@@ -1,4 +1,4 @@
-//! Entries that rows of two dictionaries name.
+//! The entries that rows of two dictionary arrays refer to.
 
 ghost use Rattle.std.specs.Prelude.{◌≡◌, ◌<◌, ◌≤◌, ◌+◌, ◌^◌, ℕ, true, length};
 ghost use Rattle.polars_arrays_bytes.specs.OffsetStrings.{place_at, places};
@@ -19,15 +19,15 @@ use polars_arrays_nested::dictionary::DictionaryArray;
 use polars_arrays_numbers::dictionary_key::DictionaryKey;
 use polars_arrays_words::words::WORD_BITS;
 
-/// The indices of two entries, one in each dictionary.
+/// The indices of two entries, one in each of two dictionaries.
 #[derive(Drop)]
 pub(crate) struct EntryPair {
     pub(crate) left: usize,
     pub(crate) right: usize,
 }
 
-/// Returns the entries of row `i` of one array and row `j` of the other, or `None` if a row is
-/// masked.
+/// Returns the indices of the entries that row `i` of one array and row `j` of the other refer to,
+/// or `None` if one of the two keys is null.
 #[inline]
 pub(crate) fn row_entries(
     left: &DictionaryArray,
@@ -51,8 +51,8 @@ pub(crate) fn row_entries(
     }
 }
 
-/// The keys of at most 64 adjacent rows of a dictionary, read at once, and the bits of a word that
-/// says which rows are present.
+/// The keys of at most 64 adjacent rows of a dictionary array, read at once: of `count` rows from
+/// row `at` on. Bit `i` of `present` is 1 if key `i` is not null.
 #[derive(Drop)]
 pub(crate) struct KeyBlock<'a> {
     pub(crate) array: &'a DictionaryArray,
@@ -69,7 +69,7 @@ pub(crate) struct KeyBlock<'a> {
 }
 
 impl<'a> KeyBlock<'a> {
-    /// Reads the keys of `n` rows from row `at` on.
+    /// Reads the keys of `n` rows from row `at` on. `n` is at most 64.
     #[inline(always)]
     pub(crate) fn read(array: &'a DictionaryArray, at: usize, n: usize) -> KeyBlock<'a>
         requires few { n ≤ 64 }
@@ -90,7 +90,7 @@ impl<'a> KeyBlock<'a> {
         }
     }
 
-    // Returns whether row `k` is present.
+    // Returns whether key `k` of the block is not null.
     #[inline(always)]
     fn has_key(&self, k: usize) -> bool
         requires { k < self.now.count }
@@ -101,7 +101,8 @@ impl<'a> KeyBlock<'a> {
     }
 }
 
-// Reads `n` keys from key `at` on.
+// Returns `n` keys from index `at` on as indices of entries, or 0 in place of a negative key. `n`
+// is at most 64; the elements after them are unspecified.
 #[inline(always)]
 #[tactic(auto, using(polars_arrays_nested::proofs::Places::places_of))]
 fn keys_from(keys: &DictKeys, at: usize, n: usize) -> [usize; WORD_BITS]
@@ -121,7 +122,8 @@ fn keys_from(keys: &DictKeys, at: usize, n: usize) -> [usize; WORD_BITS]
     }
 }
 
-// Reads `n` numbers from place `at` on as indices, 0 for a negative one.
+// Returns `n` keys from index `at` on as indices of entries, or 0 in place of a negative key. `n`
+// is at most 64; the elements after them are unspecified.
 #[inline(always)]
 #[tactic(auto, using(polars_arrays_nested::proofs::Places::places_of))]
 fn places_from<K: DictionaryKey>(keys: &[K], at: usize, n: usize) -> [usize; WORD_BITS]
@@ -136,7 +138,7 @@ fn places_from<K: DictionaryKey>(keys: &[K], at: usize, n: usize) -> [usize; WOR
     found
 }
 
-// Returns number `i` as an index, or 0 if it is negative.
+// Returns key `i` as the index of an entry, or 0 if it is negative.
 #[inline(always)]
 #[tactic(auto, using(polars_arrays_nested::proofs::Places::places_of))]
 fn place_of<K: DictionaryKey>(keys: &[K], i: usize) -> usize
@@ -155,7 +157,8 @@ fn has_bit(word: u64, i: usize) -> bool
     (word >> i) & 1 == 1
 }
 
-/// Returns the entries of row `k` of two blocks, or `None` if a row is masked.
+/// Returns the indices of the entries that key `k` of each of two blocks refers to, or `None` if
+/// one of the two keys is null.
 #[inline(always)]
 pub(crate) fn block_entries(left: &KeyBlock, right: &KeyBlock, k: usize) -> Option<EntryPair>
     requires left_good { IsGood (Dictionary left.now.array.now) }
@@ -177,7 +180,7 @@ pub(crate) fn block_entries(left: &KeyBlock, right: &KeyBlock, k: usize) -> Opti
     }
 }
 
-// Has no effect at run time. A proof learns from it that the key of a present row names an entry.
+// Does nothing at run time. Tells the proof that the key of a present row is the index of an entry.
 #[inline(always)]
 fn law_entry(_array: &DictionaryArray, _i: usize)
     requires good { IsGood (Dictionary _array.now) }

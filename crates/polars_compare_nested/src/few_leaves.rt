@@ -1,4 +1,5 @@
-//! Leaves without nulls. A few of them are compared into a word instead of a bitmap.
+//! Finds windows of at most 64 leaves without nulls. A comparison of these returns a word instead
+//! of a bitmap.
 
 ghost use Rattle.std.specs.Prelude.{◌≡◌, ◌+◌, ◌≤◌, IsTrue, IfOk, MatchResult};
 ghost use Rattle.polars_arrays_bits.specs.Errors.{IsMemory};
@@ -17,7 +18,7 @@ use polars_arrays_nested::any_array::AnyArray;
 use polars_arrays_words::words::WORD_BITS;
 use std::alloc::Global;
 
-/// Returns whether the rows of an array are leaves.
+/// Returns whether the rows of an array are leaves: numbers, truth values, byte strings or texts.
 #[inline(always)]
 pub(crate) fn has_leaves(array: &AnyArray) -> bool
     ensures { IsTrue result → IsTrue (is_leaf (type_of array.now)) }
@@ -32,8 +33,8 @@ pub(crate) fn has_leaves(array: &AnyArray) -> bool
     }
 }
 
-/// Returns whether the rows of two arrays of one type are leaves without nulls. It may return
-/// `false` if a validity has no bit unset.
+/// Returns whether the rows of two arrays of the same type are leaves without nulls. May return
+/// `false` for an array with a validity even if no row is null.
 #[inline(always)]
 pub(crate) fn are_leaves(left: &AnyArray, right: &AnyArray) -> bool
     requires left_good { IsGood left.now }
@@ -43,8 +44,8 @@ pub(crate) fn are_leaves(left: &AnyArray, right: &AnyArray) -> bool
     has_leaves(left) && !left.may_have_nulls() && !right.may_have_nulls()
 }
 
-/// Returns whether windows of `n` rows of two arrays are at most 64 leaves each, without nulls.
-/// `leaves` says that the rows of both arrays are leaves without nulls.
+/// Returns whether windows of `n` rows have at most 64 leaves without nulls. `leaves` says that the
+/// rows of both arrays are leaves without nulls.
 #[inline(always)]
 pub(crate) fn are_few_leaves(_left: &AnyArray, _right: &AnyArray, leaves: bool, n: usize) -> bool
     requires leaves { IsTrue leaves → AreLeavesWithoutNulls _left.now _right.now }
@@ -53,9 +54,9 @@ pub(crate) fn are_few_leaves(_left: &AnyArray, _right: &AnyArray, leaves: bool, 
     leaves && n <= WORD_BITS
 }
 
-/// Compares two windows of at most 64 leaves without nulls by the `LeafKernel` `steps`, and returns
-/// which rows are the same as the bits of a word, the first one lowest. The count increases by one
-/// for each comparison of leaves. The error is `Memory`.
+/// Compares two windows of at most 64 leaves without nulls by `steps`. Bit `i` of the result is 1
+/// if row `a + i` of the left array and row `b + i` of the right one are the same. The count of
+/// `steps` increases by `n`. The error is `Memory`.
 #[inline(always)]
 pub(crate) fn same_few<K: LeafKernel>(
     alloc: Global,

@@ -1,4 +1,4 @@
-//! The items of lists of one width.
+//! The items of lists of fixed size.
 
 ghost use Rattle.std.specs.Prelude.{◌≡◌, ◌+◌, ◌*◌, ◌≤◌};
 ghost use Rattle.polars_arrays_nested.specs.GoodParts.{IsGood};
@@ -8,7 +8,8 @@ ghost use Rattle.polars_arrays_nested.specs.declared.any_array.AnyArray.{FixedSi
 
 use polars_arrays_nested::fixed_size_list::FixedSizeListArray;
 
-/// Returns the first item of list `at`, and the number of items of `n` lists.
+/// Returns the index of the first item of list `at`, and the number of items of `n` lists from list
+/// `at` on.
 pub(crate) fn item_window(array: &FixedSizeListArray, at: usize, n: usize) -> (usize, usize)
     requires good { IsGood (FixedSizeList array.now) }
     requires within { at + n ≤ len_of (FixedSizeList array.now) }

@@ -1,4 +1,4 @@
-//! Raw equality of windows of leaves of one type, joined into existing bits.
+//! Raw equality of windows of leaves of one type, combined by AND with existing bits.
 
 ghost use Rattle.std.specs.Prelude.{◌≡◌, ◌+◌, ◌≤◌, IsTrue, length, MatchResult};
 ghost use Rattle.polars_arrays_bits.specs.Errors.{IsMemory};
@@ -21,8 +21,8 @@ use polars_arrays_numbers::native_type::NativeType;
 use polars_compare_leaves::numbers::and_number_windows;
 use std::alloc::Global;
 
-// Compares windows of two arrays of one kind of leaf: by the function named before the kinds for
-// those kinds, and by a bitmap for all others.
+// Matches on the kind of two arrays. For the listed kinds, calls the function that precedes them.
+// For all other kinds, compares the windows into a bitmap.
 macro_rules! join_leaves {
     (($alloc:expr, $bits:expr, $left:expr, $a:expr, $right:expr, $b:expr), $join:ident:
         $($kind:ident)+) => {
@@ -36,9 +36,9 @@ macro_rules! join_leaves {
     };
 }
 
-/// Sets each bit to its AND with the equality of the leaves at its place in two windows. The first
-/// bit is that of row `a` of the left array and row `b` of the right one. If a row is masked on
-/// either side, a true bit may become anything. The error is `Memory`; numbers need no memory.
+/// Compares the leaves of two windows, and clears the bits of unequal leaves. Bit `i` is that of
+/// row `a + i` of the left array and row `b + i` of the right one. If a row is masked on either
+/// side, a bit of 1 may become 0 or stay 1. The error is `Memory`; numbers need no memory.
 #[tactic(auto, using(crate::proofs::Strings::counts, crate::proofs::Cases::cases))]
 #[inline]
 pub(crate) fn and_leaf_windows(
@@ -62,7 +62,8 @@ pub(crate) fn and_leaf_windows(
     )
 }
 
-// Does what `and_leaf_windows` does for leaves of any kind, with a bitmap.
+// Compares the leaves of two windows, and clears the bits of unequal leaves. Works for leaves of
+// any kind, and allocates a bitmap of the results. The error is `Memory`.
 fn and_by_bitmap(
     alloc: Global,
     bits: &mut MutableBitmap,
@@ -84,7 +85,7 @@ fn and_by_bitmap(
     Ok(())
 }
 
-// Does what `and_leaf_windows` does for numbers.
+// Compares the numbers of two windows, and clears the bits of unequal numbers.
 fn and_numbers<T: NativeType>(
     bits: &mut MutableBitmap,
     left: &PrimitiveArray<T>,

@@ -19,17 +19,17 @@ use polars_arrays_nested::any_array::AnyArray;
 use polars_arrays_numbers::steps::Steps;
 use std::alloc::Global;
 
-/// Returns which rows of two arrays of one type and length are the same. Null is the same as null
-/// alone, and leaves are the same if `steps` says so.
+/// Returns which rows of two arrays of the same type and length are the same. Null is the same as
+/// null alone. Two leaves are the same if `steps` says so. `steps` is any `LeafKernel`, for example
+/// the counter `Steps`, which compares leaves by equality and counts the leaves compared.
 ///
-/// Leaves go to the `LeafKernel` that the caller passes as `steps`. The counter `Steps` is itself
-/// one: its `leaf_eq` calls `eq_leaves` (`leaf_windows.rt`) and adds the rows.
+/// If `steps` compares leaves by equality, as `Steps` does, a bit is 1 exactly if the two rows are
+/// the same tree.
 ///
-/// The count increases by exactly one for each leaf slot of the left array that is compared with
-/// one of the right: at most the leaf slots of either array, with a dictionary's entries counted
-/// once per present row. If the kernel's test of leaves is equality, as that of `Steps` is, a row's
-/// bit is set exactly if the two rows are the same tree. The error is `Memory`; the count may then
-/// have increased.
+/// On `Ok` the count of `steps` has increased by one for each leaf slot of the left array that was
+/// compared. That is at most the number of leaf slots of either array, where the leaves of a
+/// dictionary's entry count once for each present row that refers to it. The error is `Memory`; the
+/// count may have increased by then.
 #[tactic(auto, using(crate::proofs::Headline::bounds))]
 pub fn array_tot_eq_missing_kernel_counted<K: LeafKernel>(
     alloc: Global,
@@ -56,8 +56,9 @@ pub fn array_tot_eq_missing_kernel_counted<K: LeafKernel>(
     equal_windows(alloc, left, 0, right, 0, left.len(), steps)
 }
 
-/// Returns which rows of two arrays of one type and length are not the same: the negated result of
-/// `array_tot_eq_missing_kernel_counted`, after the same comparisons by the `LeafKernel` `steps`.
+/// Returns which rows of two arrays of the same type and length differ: the complement of the
+/// result of `array_tot_eq_missing_kernel_counted`. The same leaves are compared by `steps` and
+/// counted. The error is `Memory`; the count may have increased by then.
 #[tactic(auto, using(crate::proofs::Headline::bounds))]
 pub fn array_tot_ne_missing_kernel_counted<K: LeafKernel>(
     alloc: Global,
@@ -85,12 +86,13 @@ pub fn array_tot_ne_missing_kernel_counted<K: LeafKernel>(
     same.not(alloc)
 }
 
-/// Returns which rows of two arrays of one type and length are the same tree; null is the same as
-/// null alone. `steps` compares the leaves and counts these comparisons. The error is `Memory`.
+/// Returns which rows of two arrays of the same type and length are the same tree. Null is the same
+/// as null alone. `steps` counts the comparisons of leaves.
 ///
-/// On `Ok` the count has increased by exactly one for each leaf slot of the left array that is
-/// compared with one of the right: at most the leaf slots of either array, with a dictionary's
-/// entries counted once per present row. On `Memory` it may have increased.
+/// On `Ok` the count has increased by one for each leaf slot of the left array that was compared.
+/// That is at most the number of leaf slots of either array, where the leaves of a dictionary's
+/// entry count once for each present row that refers to it. The error is `Memory`; the count may
+/// have increased by then.
 #[tactic(auto, using(crate::proofs::Headline::bounds))]
 pub fn array_tot_eq_missing_kernel_with_steps(
     alloc: Global,
@@ -114,8 +116,9 @@ pub fn array_tot_eq_missing_kernel_with_steps(
     equal_windows(alloc, left, 0, right, 0, left.len(), steps)
 }
 
-/// Returns which rows of two arrays of one type and length are the same tree; null is the same as
-/// null alone. The error is `Memory`.
+/// Returns which rows of two arrays of the same type and length are equal. Nested rows are equal if
+/// they are the same tree: if all their items or fields are equal. Null is equal to null alone. The
+/// error is `Memory`.
 pub fn array_tot_eq_missing_kernel(
     alloc: Global,
     left: &AnyArray,
@@ -133,8 +136,9 @@ pub fn array_tot_eq_missing_kernel(
     array_tot_eq_missing_kernel_with_steps(alloc, left, right, &mut Steps::new())
 }
 
-/// Returns which rows of two arrays of one type and length are not the same tree; null is the same
-/// as null alone. The error is `Memory`.
+/// Returns which rows of two arrays of the same type and length differ. Nested rows differ if they
+/// are not the same tree: if some of their items or fields differ. Null is equal to null alone. The
+/// error is `Memory`.
 pub fn array_tot_ne_missing_kernel(
     alloc: Global,
     left: &AnyArray,

@@ -1,4 +1,5 @@
-//! Laws of the definitions, each the contract of a function that does nothing.
+//! Laws about the definitions that contracts use. Each law is the contract of a function that does
+//! nothing at run time.
 
 ghost use Rattle.polars_arrays_nested.specs.Leaves.{LeavesAddUp};
 ghost use Rattle.polars_compare_leaves.specs.Sameness.{same_leaf};
@@ -12,14 +13,15 @@ ghost use Rattle.polars_compare_nested.specs.TallyLaws.{TallyOfClone, TallyOfCut
 
 use polars_arrays_nested::laws::law_leaves;
 
-/// States laws of the tally: the number of comparisons of leaves that two windows cost.
+/// States laws of the tally: the number of comparisons of leaves in a comparison of two windows.
 ///
-/// The tally is at most the leaf slots of the left window. Tallies and leaf slots of adjacent
-/// windows add up. The tally is the same with the sides exchanged, so the leaf slots of the right
-/// window bound it too. The items of a list end where those of the next one begin, so a window of
-/// lists has the leaf slots of one window of items, and adjacent lists that match have the tally of
-/// that window. A struct counts each of its columns once. Slices and clones have the tally of the
-/// same rows of the original.
+/// The tally is at most the number of leaf slots of the left window. It stays the same if the two
+/// sides are exchanged, so it is also at most the number of leaf slots of the right window. Tallies
+/// of adjacent windows add up, and so do their leaf slots. The items of adjacent lists are
+/// adjacent. Therefore a window of lists has the leaf slots of one window of items, and adjacent
+/// lists that match have the tally of that window. The tally and the leaf slots of structs are the
+/// sums of those of their columns. Slices and clones have the tally of the same rows of the
+/// original.
 pub fn law_tally()
     ensures within { TallyIsWithinLeaves }
     ensures adds_up { TallyAddsUp }
@@ -36,9 +38,9 @@ pub fn law_tally()
     law_leaves();
 }
 
-/// States that the test of leaves by `Steps` is equality, and that with any such test two rows are
-/// the same exactly if they are the same tree. So a `LeafKernel` distinguishes trees as soon as its
-/// test is equality of two numbers, of two truth values and of two byte strings.
+/// States that `Steps` compares leaves by equality. Also states that with any comparison of leaves
+/// that is equality, two rows are the same exactly if they are the same tree. A `LeafKernel` has
+/// such a comparison if it compares two numbers, two truth values and two byte strings by equality.
 pub fn law_steps()
     ensures equality { IsEquality same_leaf }
     ensures trees { EqualityTellsTrees }

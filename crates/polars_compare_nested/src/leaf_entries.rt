@@ -1,4 +1,4 @@
-//! Raw equality of windows of two dictionaries whose entries are leaves.
+//! Raw equality of windows of two dictionary arrays whose entries are leaves.
 
 ghost use Rattle.std.specs.Prelude.{◌≡◌, ◌+◌, ◌-◌, ◌<◌, ◌≤◌, IsTrue, IfOk, MatchResult};
 ghost use Rattle.polars_arrays_bits.specs.Errors.{IsMemory};
@@ -20,10 +20,11 @@ use polars_arrays_nested::dictionary::DictionaryArray;
 use polars_arrays_words::words::WORD_BITS;
 use std::alloc::Global;
 
-/// Returns which keys of two windows name leaves that are the same, by the `LeafKernel` `steps`. If
-/// a key is masked on either side, the bit is arbitrary. The count increases by one for each row
-/// with both keys present. The error is `Memory`. Not inlined, so that functions that call one
-/// another once for each level of nesting need no room for the keys of a block.
+/// Returns a bit for each `i` below `n`: 1 if key `a + i` of the left array and key `b + i` of the
+/// right one refer to leaves that are the same by `steps`. If a key is masked on either side, the
+/// bit is arbitrary. The count of `steps` increases by one for each pair of present keys. The error
+/// is `Memory`. Not inlined, so that the functions that recurse into nested arrays reserve no stack
+/// for the keys of a block.
 #[inline(never)]
 pub(crate) fn eq_leaf_entries<K: LeafKernel>(
     alloc: Global,
@@ -60,9 +61,10 @@ pub(crate) fn eq_leaf_entries<K: LeafKernel>(
     Ok(bits.freeze())
 }
 
-// Appends for each of at most 64 rows whether the keys name leaves that are the same. All keys are
-// read before the leaves are compared, so that reads need not wait for comparisons. If a key is
-// masked on either side, the bit is arbitrary. The error is `Memory`.
+// Appends a bit for each of `n` pairs of keys, at most 64: 1 if they refer to leaves that are the
+// same by `steps`. All keys are read before the first leaf is compared, so that reads of keys don't
+// wait for comparisons. If a key is masked on either side, the bit is arbitrary. The error is
+// `Memory`.
 fn push_block<K: LeafKernel>(
     alloc: Global,
     bits: &mut BitmapBuilder,
@@ -95,8 +97,8 @@ fn push_block<K: LeafKernel>(
     Ok(())
 }
 
-// Returns whether row `i` of two blocks of keys names the same leaves. If a key is masked on either
-// side, the result is arbitrary. The error is `Memory`.
+// Returns whether key `i` of two blocks refers to leaves that are the same by `steps`. If a key is
+// masked on either side, the result is arbitrary. The error is `Memory`.
 #[inline(always)]
 fn equal_row<K: LeafKernel>(
     alloc: Global,
@@ -129,8 +131,8 @@ fn equal_row<K: LeafKernel>(
     }
 }
 
-// Returns whether two leaves are the same. If one of them is masked, the result is arbitrary. The
-// error is `Memory`.
+// Returns whether leaf `a` of the left array and leaf `b` of the right one are the same by `steps`.
+// If a leaf is masked on either side, the result is arbitrary. The error is `Memory`.
 #[inline(always)]
 fn equal_leaves<K: LeafKernel>(
     alloc: Global,

@@ -1,4 +1,4 @@
-//! Comparisons of leaf rows, and their count.
+//! The trait `LeafKernel`: comparisons of leaves that are counted.
 
 ghost use Rattle.std.specs.Prelude.{◌≡◌, ◌+◌, ◌≤◌, ℕ, Bool, IsTrue, length, IfOk, MatchResult};
 ghost use Rattle.polars_arrays_bits.specs.Errors.{IsMemory};
@@ -21,20 +21,22 @@ use polars_arrays_nested::any_array::AnyArray;
 use polars_arrays_numbers::steps::Steps;
 use std::alloc::Global;
 
-/// A comparison of stored leaves (numbers, truth values, byte strings and texts) that counts. The
-/// comparison of nested arrays reads leaves through this trait alone. The counter `Steps` is one:
-/// its parameter is named `steps` for that, also where it may be another kernel.
+/// A comparison of stored leaves (numbers, truth values, byte strings and texts) that counts the
+/// leaves it compares. Two leaves agree if the comparison says so. Comparisons of nested arrays
+/// compare leaves only by this trait.
+///
+/// The counter `Steps` implements it: two leaves agree if they are equal. For this reason a
+/// parameter of type `LeafKernel` is named `steps`.
 pub trait LeafKernel {
-    // Agreement of two leaf rows.
+    // True for two leaf rows that agree.
     ghost agree: { Row → Row → Bool };
 
-    // Number of comparisons counted.
+    // The number of comparisons counted.
     ghost count: { Self → ℕ };
 
-    /// Returns which leaves of two windows agree: bit `i` says whether row `a + i` of the left
-    /// array and row `b + i` of the right one agree, for the `n` rows from `a` and `b` on. If a row
-    /// is masked on either side, the bit is arbitrary. The count increases by `n`, one a row. The
-    /// error is `Memory`; the count may then have increased.
+    /// Returns a bit for each `i` below `n`: 1 if row `a + i` of the left array and row `b + i` of
+    /// the right one agree. If a row is masked on either side, the bit is arbitrary. The count
+    /// increases by `n`. The error is `Memory`; the count may have increased by then.
     fn leaf_eq(
         &mut self,
         alloc: Global,
@@ -50,9 +52,11 @@ pub trait LeafKernel {
         ensures counted { IfOk result (λ _. count self.new ≡ count self.old + n) }
         ensures kept { count self.old ≤ count self.new };
 
-    /// Does what `leaf_eq` does for at most 64 rows, and returns the bits of a word, the first row
-    /// lowest. The default uses a bitmap; a kernel that needs no memory for a few leaves may
-    /// override it.
+    /// Returns a word whose bit `i` is 1 if row `a + i` of the left array and row `b + i` of the
+    /// right one agree, for each `i` below `n`, which is at most 64. If a row is masked on either
+    /// side, the bit is arbitrary. The count increases by `n`. The error is `Memory`; the count may
+    /// have increased by then. The default allocates a bitmap; an implementation that needs no
+    /// memory may override it.
     fn leaf_word_eq(
         &mut self,
         alloc: Global,
@@ -73,10 +77,11 @@ pub trait LeafKernel {
         Ok(BitMask::from_bitmap(&bits).few_bits(0, n))
     }
 
-    /// Sets each bit to its AND with the agreement of the leaves at its place in two windows, from
-    /// rows `a` and `b` on. If a row is masked on either side, a true bit may become anything. The
-    /// count increases by the number of bits. The error is `Memory`; the count may then have
-    /// increased. The default uses a bitmap; a kernel that needs none may override it.
+    /// Clears the bits of leaves that don't agree. Bit `i` is that of row `a + i` of the left array
+    /// and row `b + i` of the right one. If a row is masked on either side, a bit of 1 may become 0
+    /// or stay 1. The count increases by the number of bits. The error is `Memory`; the count may
+    /// have increased by then. The default allocates a bitmap; an implementation that needs none
+    /// may override it.
     fn leaf_and_eq(
         &mut self,
         alloc: Global,
@@ -101,8 +106,8 @@ pub trait LeafKernel {
 
     /// Returns whether leaf `a` of the left array and leaf `b` of the right one agree. If a row is
     /// masked on either side, the result is arbitrary. The count increases by 1. The error is
-    /// `Memory`; the count may then have increased. The default compares a window of one row; a
-    /// kernel that needs no memory for two leaves may override it.
+    /// `Memory`; the count may have increased by then. The default compares a window of one row
+    /// into a bitmap; an implementation that needs no memory may override it.
     fn leaf_row_eq(
         &mut self,
         alloc: Global,
@@ -171,7 +176,7 @@ impl LeafKernel for Steps {
         Ok(())
     }
 
-    // Does not allocate, so it has no error.
+    // Never fails, since it does not allocate.
     #[inline(always)]
     fn leaf_row_eq(
         &mut self,

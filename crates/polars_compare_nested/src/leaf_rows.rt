@@ -1,4 +1,4 @@
-//! Equality of two stored leaves of arrays of one type. Nothing here allocates.
+//! Equality of two stored leaves of arrays of one type. No function allocates.
 
 ghost use Rattle.std.specs.Prelude.{◌≡◌, ◌<◌, IsTrue, length};
 ghost use Rattle.polars_arrays_flat.specs.ArrayRows.{number_rows, truth_rows};
@@ -24,7 +24,7 @@ use polars_arrays_views::rows::rows_equal;
 use polars_arrays_views::text_view::Utf8ViewArray;
 use polars_compare_leaves::bytes::ByteComparison;
 
-// Compares a row of each of two arrays of one kind of leaf by the function named before the kind.
+// Matches on the kind of two arrays, and calls the function that precedes the kind in the list.
 macro_rules! compare_rows {
     (($left:expr, $a:expr, $right:expr, $b:expr), $($same:ident: $($kind:ident)+);+) => {
         match $left {
@@ -55,7 +55,7 @@ pub(crate) fn leaf_rows(left: &AnyArray, a: usize, right: &AnyArray, b: usize) -
     )
 }
 
-// Compares two truth values.
+// Returns whether truth value `a` of the left array is equal to truth value `b` of the right one.
 #[inline(always)]
 fn same_truth(left: &BooleanArray, a: usize, right: &BooleanArray, b: usize) -> bool
     requires left_in { a < length left.now.values }
@@ -68,7 +68,7 @@ fn same_truth(left: &BooleanArray, a: usize, right: &BooleanArray, b: usize) -> 
     x == y
 }
 
-// Compares two numbers.
+// Returns whether number `a` of the left array is equal to number `b` of the right one.
 #[inline(always)]
 fn same_number<T: NativeType>(
     left: &PrimitiveArray<T>,
@@ -85,7 +85,8 @@ fn same_number<T: NativeType>(
     Comparison::compare(&Equal, left[a], right[b])
 }
 
-// Compares two byte strings or texts between offsets, or two byte strings of one size.
+// Returns whether byte string or text `a` of the left array is equal to `b` of the right one. The
+// arrays store their strings between offsets, or have strings of one size.
 #[inline(always)]
 fn same_bytes<R: ByteRows>(left: &R, a: usize, right: &R, b: usize) -> bool
     requires left_in { a < length (R.strings left.now) }
@@ -100,7 +101,7 @@ fn same_bytes<R: ByteRows>(left: &R, a: usize, right: &R, b: usize) -> bool
     ByteComparison::compare_on(&Equal, left, n, right, m)
 }
 
-// Compares two texts in views.
+// Returns whether text `a` of the left array is equal to text `b` of the right one.
 #[inline(always)]
 fn same_text(left: &Utf8ViewArray, a: usize, right: &Utf8ViewArray, b: usize) -> bool
     requires left_in { a < length left.now.views }
@@ -111,7 +112,8 @@ fn same_text(left: &Utf8ViewArray, a: usize, right: &Utf8ViewArray, b: usize) ->
     same_view(left.as_binview(), a, right.as_binview(), b)
 }
 
-// Compares two byte strings in views. The count of rows looked up in buffers is dropped: this crate
+// Returns whether byte string `a` of the left array is equal to byte string `b` of the right one.
+// `rows_equal` counts comparisons that read a buffer. That count is dropped, since this crate
 // counts comparisons of leaves.
 #[inline(always)]
 fn same_view(left: &BinaryViewArray, a: usize, right: &BinaryViewArray, b: usize) -> bool

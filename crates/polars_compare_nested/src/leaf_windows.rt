@@ -31,8 +31,8 @@ use polars_compare_leaves::sized::compare_sized_windows;
 use polars_compare_leaves::view_windows::compare_view_windows;
 use std::alloc::Global;
 
-// Compares windows of two arrays of one kind of leaf by the function named before the kind. The
-// functions of the first list take the comparison as an argument.
+// Matches on the kind of two arrays, and calls the function that precedes the kind in a list. The
+// functions of the first list take the comparison `Equal` as an argument.
 macro_rules! compare_leaves {
     (($alloc:expr, $left:expr, $a:expr, $right:expr, $b:expr, $n:expr),
         [$($compare:ident: $($of:ident)+);+],
@@ -47,9 +47,9 @@ macro_rules! compare_leaves {
     };
 }
 
-/// Returns which leaves of two windows are equal: bit `i` says whether row `a + i` of the left
-/// array is equal to row `b + i` of the right one, for the `n` rows from `a` and `b` on. The bit is
-/// arbitrary where one of the rows is masked. The error is `Memory`.
+/// Returns a bit for each `i` below `n`: 1 if row `a + i` of the left array is equal to row `b + i`
+/// of the right one. If a row is masked on either side, the bit is arbitrary. The error is
+/// `Memory`.
 #[tactic(auto, using(crate::proofs::Strings::counts, crate::proofs::Cases::cases))]
 #[inline]
 pub(crate) fn eq_leaves(
@@ -82,7 +82,7 @@ pub(crate) fn eq_leaves(
     )
 }
 
-// Compares windows of byte strings between offsets.
+// Compares windows of `n` byte strings between offsets for equality. The error is `Memory`.
 #[tactic(auto, using(crate::proofs::Strings::counts))]
 #[inline]
 fn eq_strings<O: Offset>(
@@ -102,7 +102,7 @@ fn eq_strings<O: Offset>(
     compare_byte_windows(alloc, &Equal, &left.lent(), a, &right.lent(), b, n)
 }
 
-// Compares windows of texts between offsets.
+// Compares windows of `n` texts between offsets for equality. The error is `Memory`.
 #[inline]
 fn utf8_windows<O: Offset>(
     alloc: Global,
@@ -121,7 +121,7 @@ fn utf8_windows<O: Offset>(
     eq_strings(alloc, left.as_binary(), a, right.as_binary(), b, n)
 }
 
-// Compares windows of byte strings of one size.
+// Compares windows of `n` byte strings of fixed size for equality. The error is `Memory`.
 #[tactic(auto, using(crate::proofs::Strings::counts))]
 fn eq_sized_strings(
     alloc: Global,
@@ -140,7 +140,7 @@ fn eq_sized_strings(
     compare_sized_windows(alloc, &Equal, left, a, right, b, n)
 }
 
-// Compares windows of texts in views.
+// Compares windows of `n` texts in views for equality. The error is `Memory`.
 #[inline]
 fn text_windows(
     alloc: Global,
@@ -159,8 +159,9 @@ fn text_windows(
     eq_views(alloc, left.as_binview(), a, right.as_binview(), b, n)
 }
 
-// Compares windows of byte strings in views. The count of rows looked up in buffers is dropped:
-// this crate counts comparisons of leaves.
+// Compares windows of `n` byte strings in views for equality. The error is `Memory`.
+// `compare_view_windows` counts comparisons that read a buffer. That count is dropped, since this
+// crate counts comparisons of leaves.
 #[inline]
 fn eq_views(
     alloc: Global,

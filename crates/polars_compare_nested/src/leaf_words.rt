@@ -1,5 +1,5 @@
-//! Raw equality of windows of at most 64 leaves of one type, as the bits of a word, the first row
-//! lowest.
+//! Raw equality of windows of at most 64 leaves of one type, as a word with the bit of the first
+//! row lowest.
 
 ghost use Rattle.std.specs.Prelude.{◌≡◌, ◌+◌, ◌≤◌, IsTrue, length, MatchResult};
 ghost use Rattle.polars_arrays_words.specs.Bits.{first_of, is_bit};
@@ -23,8 +23,8 @@ use polars_arrays_numbers::native_type::NativeType;
 use polars_compare_leaves::numbers::compare_few_numbers;
 use std::alloc::Global;
 
-// Matches on the kind of both arrays, and returns the word of `leaf_word`: for the kinds that are
-// listed from the function `$word`, for all others from a bitmap.
+// Matches on the kind of two arrays, and returns the word of `leaf_word`. For the listed kinds,
+// calls the function `$word`. For all other kinds, reads the word from a bitmap.
 macro_rules! compare_few_leaves {
     (($alloc:expr, $left:expr, $a:expr, $right:expr, $b:expr, $n:expr), $word:ident:
         $($kind:ident)+) => {
@@ -35,9 +35,9 @@ macro_rules! compare_few_leaves {
     };
 }
 
-/// Returns a word whose bit i says whether row `a + i` of the left array is equal to row `b + i` of
-/// the right one, for i below `n`, which is at most 64. A bit is arbitrary where one of the rows is
-/// masked. The error is `Memory`; numbers need no memory.
+/// Returns a word whose bit `i` is 1 if row `a + i` of the left array is equal to row `b + i` of
+/// the right one, for each `i` below `n`, which is at most 64. If a row is masked on either side,
+/// the bit is arbitrary. The error is `Memory`; numbers need no memory.
 #[tactic(auto, using(crate::proofs::Strings::counts, crate::proofs::Cases::cases))]
 #[inline]
 pub(crate) fn leaf_word(
@@ -61,7 +61,8 @@ pub(crate) fn leaf_word(
     )
 }
 
-// Returns the word of `leaf_word` for any kind of leaf, read from a bitmap.
+// Returns the word of `leaf_word` for leaves of any kind. Allocates a bitmap of the results, and
+// reads the word from it. The error is `Memory`.
 fn word_of_windows(
     alloc: Global,
     left: &AnyArray,
@@ -81,7 +82,7 @@ fn word_of_windows(
     Ok(BitMask::from_bitmap(&bits).few_bits(0, n))
 }
 
-// Returns the word of `leaf_word` for numbers.
+// Returns the word of `leaf_word` for numbers. Does not allocate.
 #[inline(always)]
 fn number_word<T: NativeType>(
     left: &PrimitiveArray<T>,

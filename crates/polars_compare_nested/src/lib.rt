@@ -1,5 +1,5 @@
-//! Missing equality of any two arrays of one type, nested to any depth, with the exact count of
-//! comparisons.
+//! Missing equality of two arrays of the same type, of any kind and nested to any depth. The
+//! comparisons of leaves are counted exactly.
 #![tactic(auto)]
 
 pub mod broadcasts;

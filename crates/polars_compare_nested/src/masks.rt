@@ -1,4 +1,4 @@
-//! Join of the raw bits of two windows with their masks.
+//! Combines the raw bits of a comparison of two windows with their masks.
 
 ghost use Rattle.std.specs.Prelude.{◌≡◌, ◌+◌, ◌≤◌, Bool, MatchResult, length};
 ghost use Rattle.polars_arrays_bits.specs.Errors.{IsMemory};
@@ -14,9 +14,9 @@ use polars_arrays_nested::any_array::AnyArray;
 use polars_compare_leaves::joining::{Relation, join_nulls};
 use std::alloc::Global;
 
-/// Joins the raw bits of two windows with their masks: two null rows are equal, and a null and a
-/// present row are not. If neither array has a validity, no mask is computed. The error is
-/// `Memory`.
+/// Combines the raw bits of a comparison of two windows with their masks, and returns the bits of
+/// missing equality: two nulls are equal, and a null and a present row are not. If neither array
+/// can have nulls, returns `raw` and computes no mask. The error is `Memory`.
 #[inline(always)]
 pub(crate) fn join_windows(
     alloc: Global,

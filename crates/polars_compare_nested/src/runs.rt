@@ -1,4 +1,6 @@
-//! Runs of lists whose items are adjacent on both sides, so that one comparison serves them all.
+//! Finds runs of adjacent lists that match. Two lists match if they have the same number of items,
+//! and are both present or both empty. One comparison of all items then compares all lists of a
+//! run.
 
 ghost use Rattle.std.specs.Prelude.{◌≡◌, ℕ, ◌+◌, ◌-◌, ◌<◌, ◌≤◌, false, length, IfOk};
 ghost use Rattle.polars_arrays_nested.specs.GoodParts.{IsGood};
@@ -22,21 +24,21 @@ use polars_arrays_words::words::WORD_BITS;
 pub(crate) struct ItemRun {
     /// First item of the left lists.
     pub(crate) left_start: usize,
-    /// First item of the right lists.
+    /// Index of the first item of the right lists.
     pub(crate) right_start: usize,
-    /// Number of items of all lists of one side.
+    /// Number of items of all lists, the same on each side.
     pub(crate) count: usize,
     /// Number of lists on each side.
     pub(crate) len: usize,
 }
 
-/// The next lists of two windows.
+/// The result of `next_rows`: the next lists of two windows.
 #[derive(Drop)]
 pub(crate) enum NextRows {
-    /// The first two lists don't match: they have different numbers of items, or they have items
-    /// and one of them is null.
+    /// The next two lists don't match: they have different numbers of items, or they have items and
+    /// one of them is null.
     Apart,
-    /// The first lists match.
+    /// The next lists match.
     Run(ItemRun),
 }
 
@@ -51,7 +53,8 @@ pub(crate) fn item_count(array: &ListArray, i: usize) -> usize
     array.offsets().offset(i + 1) - array.offsets().offset(i)
 }
 
-// Calls `$of` on the lists of two arrays, with their offsets of either width as slices.
+// Calls the function `$of` with two list arrays and their offsets as slices. The offsets have 32 or
+// 64 bits on each side.
 macro_rules! on_lists {
     ($of:ident, $left:expr, $a:expr, $right:expr, $b:expr, $n:expr) => {
         match ($left.offsets(), $right.offsets()) {
@@ -71,8 +74,9 @@ macro_rules! on_lists {
     };
 }
 
-// Counts the leading lists that match, among `n`. Not inlined, so that the code for a run within
-// one word of matches stays small.
+// Returns the number of leading pairs of lists that match, at most `n`: list `a + i` of the left
+// array and list `b + i` of the right one. Not inlined, so that the code of `matching_run`, which
+// calls it only for long runs, stays small.
 #[inline(never)]
 fn run_length(left: &ListArray, a: usize, right: &ListArray, b: usize, n: usize) -> usize
     requires left_good { IsGood (List left.now) }
@@ -86,7 +90,8 @@ fn run_length(left: &ListArray, a: usize, right: &ListArray, b: usize, n: usize)
     on_lists!(matching_rows, left, a, right, b, n)
 }
 
-// Returns which of at most 64 lists match, as the bits of a word.
+// Returns a word whose bit `i` is 1 if list `a + i` of the left array and list `b + i` of the right
+// one match, for each `i` below `n`, which is at most 64.
 #[inline(never)]
 fn word_of(left: &ListArray, a: usize, right: &ListArray, b: usize, n: usize) -> u64
     requires left_good { IsGood (List left.now) }
@@ -99,8 +104,8 @@ fn word_of(left: &ListArray, a: usize, right: &ListArray, b: usize, n: usize) ->
     on_lists!(matching_word, left, a, right, b, n)
 }
 
-/// The known matches of the next lists: bit `i` of `word` is that of list `i`, and `len` lists are
-/// known, at most 64.
+/// The known matches of the next pairs of lists, at most 64. Bit `i` of `word` is 1 if the lists of
+/// pair `i` match, for each `i` below `len`.
 #[derive(Drop)]
 pub(crate) struct Matches {
     word: u64,
@@ -108,14 +113,14 @@ pub(crate) struct Matches {
 }
 
 impl Matches {
-    /// Creates matches of no lists: none is known yet.
+    /// Creates a value in which no match is known.
     pub(crate) fn none() -> Matches
         ensures { result.len ≡ 0 }
     {
         Matches { word: 0, len: 0 }
     }
 
-    // Computes the matches of the first of `n` lists.
+    // Computes the matches of the first of `n` pairs of lists, at most 64.
     fn of_lists(left: &ListArray, a: usize, right: &ListArray, b: usize, n: usize) -> Matches
         requires left_good { IsGood (List left.now) }
         requires right_good { IsGood (List right.now) }
@@ -131,7 +136,8 @@ impl Matches {
         }
     }
 
-    // Computes the matches of the first of `n` lists if none is known.
+    // Computes the matches of the first of `n` pairs of lists, unless some matches are known
+    // already.
     #[inline(always)]
     fn learn(&mut self, left: &ListArray, a: usize, right: &ListArray, b: usize, n: usize)
         requires left_good { IsGood (List left.now) }
@@ -148,7 +154,7 @@ impl Matches {
         }
     }
 
-    // Removes the first `n` lists.
+    // Removes the matches of the first `n` pairs of lists.
     #[inline(always)]
     fn skip(&mut self, n: usize)
         requires within { n ≤ self.old.len }
@@ -161,8 +167,8 @@ impl Matches {
     }
 }
 
-// Counts the next lists that match, among `n`. Computes a word of matches if none is known, and
-// keeps what is known of later lists.
+// Returns the number of leading pairs of lists that match, at most `n`. Computes the next matches
+// if none is known. Afterwards `matches` has the known matches of the lists after these.
 #[inline(always)]
 fn matching_run(
     left: &ListArray,
@@ -195,9 +201,10 @@ fn matching_run(
     rows + run_length(left, a + rows, right, b + rows, n - rows)
 }
 
-/// Returns how the next lists are compared, among `n`, from row `a` on of the left array and from
-/// row `b` on of the right one. `matches` has the known matches of the next lists, and afterwards
-/// those of the lists after them.
+/// Returns the run of the next lists that match, or `Apart` if the next two lists don't match. At
+/// most `n` lists are read, from row `a` on of the left array and from row `b` on of the right one.
+/// `matches` has the known matches of these lists. Afterwards it has the known matches of the lists
+/// that follow the returned ones.
 pub(crate) fn next_rows(
     left: &ListArray,
     a: usize,
@@ -232,8 +239,8 @@ pub(crate) fn next_rows(
     })
 }
 
-/// Appends a bit for each of `rows` lists from row `a` on: whether all bits of its items are set.
-/// `items` has the bits of exactly the items of these lists.
+/// Appends a bit for each of `rows` lists from row `a` on: 1 if the bits of all its items are 1.
+/// `items` has the bits of all items of these lists.
 pub(crate) fn push_rows(
     bits: &mut BitmapBuilder,
     items: &Bitmap,
@@ -260,8 +267,8 @@ pub(crate) fn push_rows(
     }
 }
 
-/// Appends a bit for each of `rows` lists from row `a` on: whether all bits of its items are set.
-/// The lists have at most 64 items together. `word` has their bits, that of the first item lowest.
+/// Appends a bit for each of `rows` lists from row `a` on: 1 if the bits of all its items are 1.
+/// The lists have at most 64 items in all. Their bits are those of `word`, the first item lowest.
 pub(crate) fn push_word(
     bits: &mut BitmapBuilder,
     word: u64,

@@ -1,5 +1,5 @@
-//! Loops over lists between offsets of either width: whether lists match, and whether all bits of
-//! their items are set. The offsets are passed as slices, beside their array.
+//! Loops over lists between offsets of 32 or 64 bits: whether lists match, and whether the bits of
+//! all their items are set. The offsets are passed as slices, besides their array.
 
 ghost use Rattle.std.specs.Option.{option_copied};
 ghost use Rattle.std.specs.Prelude.{◌≡◌, ℕ, ◌+◌, ◌-◌, ◌^◌, ◌<◌, ◌≤◌, ◌↔◌, ◌&&◌, IfSome, IsTrue};
@@ -28,7 +28,7 @@ use polars_arrays_numbers::offset::Offset;
 use polars_arrays_words::runs::word_set;
 use polars_arrays_words::words::{WORD_BITS, low_bits};
 
-// Returns offset `i` as a place, or 0 if it is negative.
+// Returns offset `i` as an index, or 0 if it is negative.
 #[inline(always)]
 #[tactic(auto, using(crate::proofs::OffsetPlaces::places_of))]
 fn place_of<O: Offset>(offsets: &[O], i: usize) -> usize
@@ -38,7 +38,7 @@ fn place_of<O: Offset>(offsets: &[O], i: usize) -> usize
     offsets[i].to_place().unwrap_or(0)
 }
 
-// Returns the first item of list `i`, and its number of items.
+// Returns the index of the first item of list `i`, and its number of items.
 #[inline(always)]
 fn list_at<O: Offset>(offsets: &[O], i: usize) -> (usize, usize)
     requires within { i < row_count offsets.now }
@@ -50,7 +50,7 @@ fn list_at<O: Offset>(offsets: &[O], i: usize) -> (usize, usize)
     (from, to - from)
 }
 
-// Truth values for the pairs of lists of two windows: whether they have equally many items.
+// A truth value for each pair of lists of two windows: whether both have the same number of items.
 #[derive(Drop)]
 struct SameCounts<'m, L: Offset, R: Offset> {
     left: &'m [L],
@@ -83,7 +83,7 @@ impl<L: Offset, R: Offset> TruthValues for SameCounts<'_, L, R> {
     }
 }
 
-// Truth values for the lists of a window: whether they have `width` items.
+// A truth value for each list of a window: whether it has `width` items.
 #[derive(Drop)]
 struct ListsOfWidth<'m, O: Offset> {
     offsets: &'m [O],
@@ -110,7 +110,8 @@ impl<O: Offset> TruthValues for ListsOfWidth<'_, O> {
     }
 }
 
-/// Returns which of the `n` rows from row `at` on are present, as the bits of a word.
+/// Returns a word whose bit `i` is 1 if row `at + i` is present, for each `i` below `n`, which is
+/// at most 64. Without a validity all rows are present.
 #[inline(always)]
 pub(crate) fn present_bits(validity: Option<&Bitmap>, at: usize, n: usize) -> u64
     requires within { IfSome (option_copied validity) (λ bits. at + n ≤ length bits) }
@@ -124,7 +125,8 @@ pub(crate) fn present_bits(validity: Option<&Bitmap>, at: usize, n: usize) -> u6
     }
 }
 
-// Returns which of `n` rows of two windows are present on both sides.
+// Returns a word whose bit `i` is 1 if list `a + i` of the left array and list `b + i` of the right
+// one are both present, for each `i` below `n`, which is at most 64.
 #[inline(always)]
 fn both_present(left: &ListArray, a: usize, right: &ListArray, b: usize, n: usize) -> u64
     requires left_good { IsGood (List left.now) }
@@ -139,8 +141,9 @@ fn both_present(left: &ListArray, a: usize, right: &ListArray, b: usize, n: usiz
     present_bits(left.validity(), a, n) & present_bits(right.validity(), b, n)
 }
 
-/// Returns which of at most 64 lists match, as the bits of a word: they have equally many items,
-/// and both are present or they have none.
+/// Returns a word whose bit `i` is 1 if list `a + i` of the left array and list `b + i` of the
+/// right one match, for each `i` below `n`, which is at most 64. Two lists match if they have the
+/// same number of items, and are both present or both empty.
 // Compares 64 counts at a time, and reads validities as words.
 #[inline(always)]
 pub(crate) fn matching_word<L: Offset, R: Offset>(
@@ -185,7 +188,8 @@ pub(crate) fn matching_word<L: Offset, R: Offset>(
     same & (present | pack_few(&empty, 0, n))
 }
 
-/// Counts the leading true bits among the first `n` bits of a word.
+/// Returns the number of bits that are 1 before the first 0, from the lowest bit up, among the
+/// first `n` bits of a word.
 #[inline(always)]
 pub(crate) fn leading_bits(word: u64, n: usize) -> usize
     requires { n ≤ 64 }
@@ -196,7 +200,8 @@ pub(crate) fn leading_bits(word: u64, n: usize) -> usize
     (word.trailing_ones() as usize).min(n)
 }
 
-/// Counts the leading pairs of lists that match, among `n`.
+/// Returns the number of leading pairs of lists that match, at most `n`: list `a + i` of the left
+/// array and list `b + i` of the right one.
 pub(crate) fn matching_rows<L: Offset, R: Offset>(
     left: &ListArray,
     left_offsets: &[L],
@@ -240,8 +245,8 @@ pub(crate) fn matching_rows<L: Offset, R: Offset>(
     n
 }
 
-// Truth values for the lists of a run: whether all bits of a list's items are set. `items` begins
-// with the bit of item `first`.
+// A truth value for each list of a run: whether the bits of all its items are set. The first bit of
+// `items` is that of item `first`.
 #[derive(Drop)]
 struct ListBits<'m, 'a, O: Offset> {
     items: &'m BitMask<'a>,
@@ -269,15 +274,16 @@ impl<O: Offset> TruthValues for ListBits<'_, '_, O> {
         self.items.all_set(place.saturating_sub(self.first), count)
     }
 
-    // Packs in registers, since each value is computed from two offsets and the bits between them,
-    // more than 64 bits in all.
+    // Packs truth values in registers. This is faster here, since each value is computed from more
+    // than 64 bits: from two offsets and the bits between them.
     #[inline(always)]
     fn packs_by_bit(&self) -> bool {
         true
     }
 }
 
-// Returns whether each of `rows` lists from row `a` on has `width` items. Tests 64 lists at a time.
+// Returns whether each of `rows` lists from row `a` on has `width` items. Checks 64 lists at a
+// time.
 fn have_width<O: Offset>(offsets: &[O], a: usize, rows: usize, width: usize) -> bool
     requires within { a + rows < length offsets.now }
     requires good { AreSpans (places O.value offsets.now) a rows }
@@ -303,8 +309,8 @@ fn have_width<O: Offset>(offsets: &[O], a: usize, rows: usize, width: usize) -> 
     true
 }
 
-// Returns the number of items of each of `rows` lists from row `a` on if it is the same for all.
-// Returns `None` for fewer lists than a word has bits, without testing them.
+// Returns the number of items of each of `rows` lists from row `a` on, if it is the same for all.
+// Returns `None` otherwise, and also if there are fewer than 64 lists.
 fn one_width<O: Offset>(offsets: &[O], a: usize, rows: usize) -> Option<usize>
     requires within { a + rows < length offsets.now }
     requires good { AreSpans (places O.value offsets.now) a rows }
@@ -325,9 +331,9 @@ fn one_width<O: Offset>(offsets: &[O], a: usize, rows: usize) -> Option<usize>
     }
 }
 
-/// Appends a bit for each of `rows` lists from row `a` on: whether all bits of its items are set.
-/// If all lists have equally many items, they are folded as blocks of bits, without reading their
-/// offsets.
+/// Appends a bit for each of `rows` lists from row `a` on: 1 if the bits of all its items are 1.
+/// `items` has the bits of all items of these lists. If there are 64 lists or more, all with the
+/// same number of items, their bits are read as blocks of that size, without the offsets.
 pub(crate) fn push_lists<O: Offset>(
     bits: &mut BitmapBuilder,
     items: &Bitmap,
@@ -362,8 +368,8 @@ pub(crate) fn push_lists<O: Offset>(
     }
 }
 
-// Truth values for the lists of a run, whose items' bits are those of a word: whether all bits of a
-// list's items are set.
+// A truth value for each list of a run: whether the bits of all its items are set. The lowest bit
+// of `word` is that of item `first`.
 #[derive(Drop)]
 struct WordLists<'m, O: Offset> {
     word: u64,
@@ -392,16 +398,16 @@ impl<O: Offset> TruthValues for WordLists<'_, O> {
         word_set(self.word, place.saturating_sub(self.first), count)
     }
 
-    // Packs in registers, since each value is computed by a shift of the word, which has no vector
-    // form.
+    // Packs truth values in registers. This is faster here, since each value is computed by a shift
+    // of the word, which has no vector form.
     #[inline(always)]
     fn packs_by_bit(&self) -> bool {
         true
     }
 }
 
-/// Appends a bit for each of `rows` lists from row `a` on: whether all bits of its items are set.
-/// The lists have at most 64 items, whose bits are those of `word`.
+/// Appends a bit for each of `rows` lists from row `a` on: 1 if the bits of all its items are 1.
+/// The lists have at most 64 items in all. Their bits are those of `word`, the first item lowest.
 pub(crate) fn push_word_lists<O: Offset>(
     bits: &mut BitmapBuilder,
     word: u64,

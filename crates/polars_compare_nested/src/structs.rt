@@ -1,4 +1,4 @@
-//! Pairs of columns of two structs.
+//! Columns of two struct arrays.
 
 ghost use Rattle.std.specs.Prelude.{◌≡◌, ◌<◌, length, slice_index_or};
 ghost use Rattle.polars_arrays_nested.specs.GoodParts.{IsGood};
@@ -12,8 +12,8 @@ ghost use Rattle.polars_arrays_nested.specs.declared.struct_array.StructArray.{s
 use polars_arrays_nested::any_array::AnyArray;
 use polars_arrays_nested::struct_array::StructArray;
 
-/// Returns column `i` of each of two structs of one type. Both columns are good, of one type, and
-/// as long as their structs.
+/// Returns column `i` of each of two struct arrays of the same type. Both columns have the same
+/// type, and are as long as their struct arrays.
 pub(crate) fn column_pair<'a>(
     left: &'a StructArray,
     right: &'a StructArray,

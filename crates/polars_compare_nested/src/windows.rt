@@ -1,13 +1,13 @@
-//! Equality of the rows of two windows of one type: `n` rows from row `a` on of the left array and
-//! from row `b` on of the right one.
+//! Equality of the rows of two windows: `n` rows from row `a` on of the left array, and `n` rows
+//! from row `b` on of the right one. Both arrays have the same type.
 //!
-//! Nested arrays are compared by windows of the arrays that they hold, and no array is copied. A
-//! struct is compared by one window of each column; lists of one width by one window of all their
-//! items; lists between offsets by one window for each run of lists that match, whose items are
-//! adjacent on both sides; a dictionary by one pair of entries for each row.
+//! A comparison of nested arrays compares windows of the arrays inside them, and copies no array.
+//! Structs need one comparison for each column. Lists of fixed size need one comparison of all
+//! their items. Lists between offsets need one comparison for each run of adjacent lists with the
+//! same numbers of items (`runs.rt`). Dictionaries need a comparison of two entries for each row.
 //!
-//! Leaves go to the `LeafKernel` that the caller passes as `steps`. The counter `Steps` is itself
-//! one: its `leaf_eq` calls `eq_leaves` (`leaf_windows.rt`) and adds the rows.
+//! Leaves are compared by the `LeafKernel` that the caller passes as `steps`. The counter `Steps`
+//! is a `LeafKernel`: it compares leaves by equality (`eq_leaves`), and counts them.
 
 ghost use Rattle.std.specs.Prelude.{◌≡◌, ◌+◌, ◌-◌, ◌<◌, ◌≤◌, IsTrue, length, IfOk, MatchResult};
 ghost use Rattle.polars_arrays_bits.specs.Errors.{IsMemory};
@@ -43,10 +43,10 @@ use polars_arrays_nested::list::ListArray;
 use polars_arrays_nested::struct_array::StructArray;
 use std::alloc::Global;
 
-/// Returns which rows of two windows are the same; null is the same as null alone. Leaves go to the
-/// `LeafKernel` that the caller passes as `steps` (a `Steps` compares them and counts). Its count
-/// increases by one for each comparison of leaves. The error is `Memory`; the count may then have
-/// increased.
+/// Returns a bit for each `i` below `n`: 1 if row `a + i` of the left array and row `b + i` of the
+/// right one are the same. Null is the same as null alone. Leaves are compared by `steps`, whose
+/// count increases by one for each comparison. The error is `Memory`; the count may have increased
+/// by then.
 #[cycle(equal)]
 pub fn equal_windows<K: LeafKernel>(
     alloc: Global,
@@ -78,8 +78,9 @@ pub fn equal_windows<K: LeafKernel>(
     join_windows(alloc, raw?, left, a, right, b)
 }
 
-/// Returns which lists of two windows have equally many and the same items, in order. If a list is
-/// masked on either side, the bit is arbitrary. The error is `Memory`.
+/// Returns a bit for each pair of lists of two windows: 1 if they have the same number of items,
+/// and the same items in order. If a list is masked on either side, the bit is arbitrary. Leaves
+/// are compared and counted by `steps`. The error is `Memory`.
 #[cycle(equal)]
 pub fn eq_lists<K: LeafKernel>(
     alloc: Global,
@@ -117,9 +118,9 @@ pub fn eq_lists<K: LeafKernel>(
     Ok(bits.freeze())
 }
 
-// Appends the bits of the next lists, among `n`, and returns the number of these lists. `leaves`
-// says whether all items are leaves without nulls, and `matches` has the known matches of the next
-// lists. The error is `Memory`.
+// Appends the bits of the next pairs of lists, at least one and at most `n`, and returns their
+// number. `leaves` says that all items are leaves without nulls. `matches` has the known matches of
+// the next lists. The error is `Memory`.
 #[cycle(equal)]
 fn push_next<K: LeafKernel>(
     alloc: Global,
@@ -172,8 +173,9 @@ fn push_next<K: LeafKernel>(
     }
 }
 
-/// Returns which lists of one width of two windows have the same items in order. If a list is
-/// masked on either side, the bit is arbitrary. The error is `Memory`.
+/// Returns a bit for each pair of fixed-size lists of two windows: 1 if they have the same items in
+/// order. If a list is masked on either side, the bit is arbitrary. Leaves are compared and counted
+/// by `steps`. The error is `Memory`.
 #[cycle(equal)]
 pub fn eq_fixed_size_lists<K: LeafKernel>(
     alloc: Global,
@@ -203,9 +205,10 @@ pub fn eq_fixed_size_lists<K: LeafKernel>(
     BitMask::from_bitmap(&items).all_in_blocks(alloc, left.width(), n)
 }
 
-/// Returns which structs of two windows have the same row in each field. If a struct is masked on
-/// either side, the bit is arbitrary. The bits of the first column are reused for the result. The
-/// error is `Memory`.
+/// Returns a bit for each pair of structs of two windows: 1 if they have the same row in each
+/// field. If a struct is masked on either side, the bit is arbitrary. Leaves are compared and
+/// counted by `steps`. The bits of the first column are reused for the result. The error is
+/// `Memory`.
 #[cycle(equal)]
 pub fn eq_structs<K: LeafKernel>(
     alloc: Global,
@@ -234,9 +237,10 @@ pub fn eq_structs<K: LeafKernel>(
     Ok(bits.freeze())
 }
 
-// Sets each of `n` bits to its AND with the sameness of the rows of two columns, from rows `a` and
-// `b` on. Leaves without nulls are joined in place. The error is `Memory`; the count may then have
-// increased.
+// Compares the rows of two columns, and clears the bits of rows that differ. Bit `i` is that of row
+// `a + i` of the left column and row `b + i` of the right one. Leaves without nulls are compared by
+// `leaf_and_eq`, all other rows into a new bitmap. The error is `Memory`; the count of `steps` may
+// have increased by then.
 #[cycle(equal)]
 fn join_column<K: LeafKernel>(
     alloc: Global,
@@ -264,9 +268,9 @@ fn join_column<K: LeafKernel>(
     Ok(())
 }
 
-/// Returns which keys of two windows name entries that are the same. If a key is masked on either
-/// side, the bit is arbitrary. Entries that are leaves are compared in blocks of rows. The error is
-/// `Memory`.
+/// Returns a bit for each pair of keys of two windows: 1 if they refer to entries that are the
+/// same. If a key is masked on either side, the bit is arbitrary. Leaves are compared and counted
+/// by `steps`. If the entries are leaves, keys are read in blocks of 64. The error is `Memory`.
 #[cycle(equal)]
 pub fn eq_dictionaries<K: LeafKernel>(
     alloc: Global,
@@ -294,8 +298,8 @@ pub fn eq_dictionaries<K: LeafKernel>(
     Ok(bits.freeze())
 }
 
-// Returns whether the entries of two rows are the same. If a row is masked on either side, the
-// result is arbitrary. The error is `Memory`.
+// Returns whether key `a` of the left array and key `b` of the right one refer to entries that are
+// the same. If a key is masked on either side, the result is arbitrary. The error is `Memory`.
 #[cycle(equal)]
 #[inline(always)]
 fn equal_entries<K: LeafKernel>(
@@ -324,9 +328,9 @@ fn equal_entries<K: LeafKernel>(
     }
 }
 
-// Returns whether two rows are the same, without reading the validities of the two arrays. If a row
-// is masked on either side, the result is arbitrary. Leaves are compared without a bitmap. The
-// error is `Memory`.
+// Returns whether row `a` of the left array and row `b` of the right one are the same, without
+// reading the validities of the two arrays. If a row is masked on either side, the result is
+// arbitrary. Leaves are compared by `leaf_row_eq`, which may need no bitmap. The error is `Memory`.
 #[cycle(equal)]
 #[inline(always)]
 fn raw_row<K: LeafKernel>(
@@ -354,8 +358,8 @@ fn raw_row<K: LeafKernel>(
     }
 }
 
-// Does what `raw_row` does, for arrays that hold arrays and for nulls. Entries of dictionaries are
-// compared without a bitmap.
+// Returns the result of `raw_row` for nested arrays and for null arrays. Entries of dictionaries
+// are compared without a bitmap for their row. The error is `Memory`.
 #[cycle(equal)]
 fn nested_row<K: LeafKernel>(
     alloc: Global,

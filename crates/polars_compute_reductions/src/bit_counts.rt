@@ -1,4 +1,4 @@
-//! Counts of the bits of numbers.
+//! Counts of the bits of numbers: of ones, of zeros, and of equal bits at one end.
 
 ghost use Rattle.std.specs.Prelude.{◌≡◌, ℕ, List, Bool, map, IfOk, MatchResult};
 ghost use Rattle.std.specs.Option.{option_copied};
@@ -15,12 +15,12 @@ use polars_arrays_flat::primitive::PrimitiveArray;
 use polars_arrays_numbers::native_type::NativeType;
 use std::alloc::{AllocError, Global};
 
-/// A count of bits of one kind in a number.
+/// A way of counting bits of a number, such as counting its ones.
 pub trait BitCount<T: NativeType> {
-    // The count of such bits in a list, the lowest bit first.
+    // The count for a list of bits, the lowest bit first.
     ghost amount: { List Bool → ℕ };
 
-    /// Counts such bits of the number.
+    /// Returns the count for the number.
     fn count(&self, number: T) -> u32
         ensures { result ≡ amount (number_bits (bit_len T.width) (T.value number)) };
 }
@@ -123,7 +123,7 @@ impl<T: BitNumber> BitCount<T> for TrailingZeros {
     }
 }
 
-// Counts the bits of each number.
+// Returns a new vector with the count for each number.
 fn count_each<T: NativeType, C: BitCount<T>>(
     alloc: Global,
     count: &C,
@@ -140,7 +140,7 @@ fn count_each<T: NativeType, C: BitCount<T>>(
     Ok(counts)
 }
 
-// Clones a validity.
+// Clones a validity, if there is one. The error is `Memory`.
 pub(crate) fn copied_validity(
     alloc: Global,
     validity: Option<&Bitmap>,
@@ -156,7 +156,8 @@ pub(crate) fn copied_validity(
     }
 }
 
-/// Counts the bits of each row. Nulls stay null. The error is `Memory`.
+/// Returns an array with the count for each row, as `count` counts bits. Null rows stay null. The
+/// error is `Memory`.
 pub fn count_bits_by_row<T: NativeType, C: BitCount<T>>(
     alloc: Global,
     count: &C,

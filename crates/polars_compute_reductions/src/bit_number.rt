@@ -1,12 +1,12 @@
-//! Number types whose bits are counted and reduced.
+//! The trait `BitNumber`: number types whose bits are counted and combined.
 
 use crate::wrapping::WrappingNumber;
 use num_traits::PrimInt;
 use polars_arrays_numbers::native_type::NativeType;
 
-/// A type of numbers of 8 to 64 bits.
+/// A type of integers of 8 to 64 bits, whose bits can be counted and combined.
 pub trait BitNumber: NativeType + WrappingNumber + PrimInt {
-    /// States that the number is one of its type. Does nothing.
+    /// States that the number lies within the bounds of its type. Does nothing at run time.
     fn law_fits(self)
         ensures { Self.fits (Self.value self) };
 }

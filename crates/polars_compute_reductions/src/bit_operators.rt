@@ -1,17 +1,17 @@
-//! Operators on the bits of numbers.
+//! Operators that combine the bits of two numbers.
 
 use crate::bit_number::BitNumber;
 use crate::operator::Operator;
 
-/// The AND of each two bits.
+/// The operator that combines two numbers bit by bit by AND.
 #[derive(Drop)]
 pub struct And;
 
-/// The OR of each two bits.
+/// The operator that combines two numbers bit by bit by OR.
 #[derive(Drop)]
 pub struct Or;
 
-/// The exclusive OR of each two bits.
+/// The operator that combines two numbers bit by bit by exclusive OR.
 #[derive(Drop)]
 pub struct Xor;
 

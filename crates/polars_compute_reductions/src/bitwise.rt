@@ -1,5 +1,5 @@
-//! Bits of columns of numbers and of truth values: counts, reductions, and operators on two
-//! scalars.
+//! The trait `BitwiseKernel`: counts and reductions of the bits of arrays of numbers or truth
+//! values.
 
 ghost use Rattle.std.specs.Prelude.{◌≡◌, ℕ, [], ◌∷◌, List, Some, not, count_by, option_map};
 ghost use Rattle.std.specs.Prelude.{MatchResult};
@@ -22,17 +22,19 @@ use polars_arrays_flat::boolean::BooleanArray;
 use polars_arrays_flat::primitive::PrimitiveArray;
 use std::alloc::Global;
 
-/// Counts and reductions of the bits of an array's rows. A count keeps nulls; its error is
-/// `Memory`. A reduction joins the present rows bit by bit, and is `None` if no row is present.
+/// Counts and reductions of the bits of an array's rows. A number has the bits of its type, and a
+/// truth value has one bit. A count returns an array with a number for each row, in which null rows
+/// stay null; its error is `Memory`. A reduction combines the present rows bit by bit, and returns
+/// `None` if no row is present.
 pub trait BitwiseKernel {
     type Scalar;
 
-    // The rows, and the number of bits of a present one.
+    // The rows (`rows`), and the number of bits of each present row (`width`).
     ghost rows: { Self → List Row };
 
     ghost width: { ℕ };
 
-    // The row of a scalar.
+    // The row that a scalar stands for.
     ghost scalar_row: { Self.Scalar → Row };
 
     /// Counts the ones of each row.
@@ -63,33 +65,33 @@ pub trait BitwiseKernel {
         ensures { MatchResult result (AreCounts (trailing_run not) width (rows self.now))
             IsMemory };
 
-    /// Returns the AND of the present rows.
+    /// Returns the AND of the present rows, or `None` if no row is present.
     fn reduce_and(&self) -> Option<Self::Scalar>
         ensures { option_map (λ x. row_bits width (scalar_row x)) result
             ≡ reduced (list_all (λ b. b)) width (rows self.now) };
 
-    /// Returns the OR of the present rows.
+    /// Returns the OR of the present rows, or `None` if no row is present.
     fn reduce_or(&self) -> Option<Self::Scalar>
         ensures { option_map (λ x. row_bits width (scalar_row x)) result
             ≡ reduced (list_any (λ b. b)) width (rows self.now) };
 
-    /// Returns the exclusive OR of the present rows: a bit is 1 if it is 1 in an odd number of
-    /// them.
+    /// Returns the exclusive OR of the present rows, or `None` if no row is present. A bit of the
+    /// result is 1 if it is 1 in an odd number of present rows.
     fn reduce_xor(&self) -> Option<Self::Scalar>
         ensures { option_map (λ x. row_bits width (scalar_row x)) result
             ≡ reduced is_odd width (rows self.now) };
 
-    /// Returns the AND of two rows' bits.
+    /// Returns the AND of two scalars, bit by bit.
     fn bit_and(lhs: Self::Scalar, rhs: Self::Scalar) -> Self::Scalar
         ensures { Some (row_bits width (scalar_row result))
             ≡ reduced (list_all (λ b. b)) width (scalar_row lhs ∷ scalar_row rhs ∷ []) };
 
-    /// Returns the OR of two rows' bits.
+    /// Returns the OR of two scalars, bit by bit.
     fn bit_or(lhs: Self::Scalar, rhs: Self::Scalar) -> Self::Scalar
         ensures { Some (row_bits width (scalar_row result))
             ≡ reduced (list_any (λ b. b)) width (scalar_row lhs ∷ scalar_row rhs ∷ []) };
 
-    /// Returns the XOR of two rows' bits.
+    /// Returns the exclusive OR of two scalars, bit by bit.
     fn bit_xor(lhs: Self::Scalar, rhs: Self::Scalar) -> Self::Scalar
         ensures { Some (row_bits width (scalar_row result))
             ≡ reduced is_odd width (scalar_row lhs ∷ scalar_row rhs ∷ []) };

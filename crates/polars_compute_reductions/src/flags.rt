@@ -1,33 +1,35 @@
-//! A flag for each row of a word of bits, in numbers as wide as those that are folded.
+//! Expands a word of 64 bits to 64 flags, one for each row. A flag is a number that is 0 if the
+//! row's bit is 0. Loops that read a flag and a number for each row are fastest if both are equally
+//! wide.
 
 ghost use Rattle.std.specs.Prelude.{◌≡◌, ℕ, Bool, eqb, not, map};
 ghost use Rattle.polars_arrays_words.specs.Bits.{first_of, is_bit};
 
 use std::simd::prelude::*;
 
-// Number of rows of a word.
+// Number of rows that have a bit in one word.
 const ROWS: usize = 64;
 
-// Index of the byte of a word that has a row's bit.
+// For each row, the index of the byte of a word that has the row's bit.
 const BYTES: [usize; ROWS] = [
     0, 0, 0, 0, 0, 0, 0, 0, 1, 1, 1, 1, 1, 1, 1, 1, 2, 2, 2, 2, 2, 2, 2, 2, 3, 3, 3, 3, 3, 3, 3, 3,
     4, 4, 4, 4, 4, 4, 4, 4, 5, 5, 5, 5, 5, 5, 5, 5, 6, 6, 6, 6, 6, 6, 6, 6, 7, 7, 7, 7, 7, 7, 7, 7,
 ];
 
-// Mask of a row's bit in that byte.
+// For each row, the mask of its bit within its byte (`BYTES`).
 const PLACES: [u8; ROWS] = [
     1, 2, 4, 8, 16, 32, 64, 128, 1, 2, 4, 8, 16, 32, 64, 128, 1, 2, 4, 8, 16, 32, 64, 128, 1, 2, 4,
     8, 16, 32, 64, 128, 1, 2, 4, 8, 16, 32, 64, 128, 1, 2, 4, 8, 16, 32, 64, 128, 1, 2, 4, 8, 16,
     32, 64, 128, 1, 2, 4, 8, 16, 32, 64, 128,
 ];
 
-// Index of the half of a word that has a row's bit.
+// For each row, the index of the half of a word that has the row's bit.
 const HALVES: [usize; ROWS] = [
     0, 0, 0, 0, 0, 0, 0, 0, 0, 0, 0, 0, 0, 0, 0, 0, 0, 0, 0, 0, 0, 0, 0, 0, 0, 0, 0, 0, 0, 0, 0, 0,
     1, 1, 1, 1, 1, 1, 1, 1, 1, 1, 1, 1, 1, 1, 1, 1, 1, 1, 1, 1, 1, 1, 1, 1, 1, 1, 1, 1, 1, 1, 1, 1,
 ];
 
-// Mask of a row's bit in that half.
+// For each row, the mask of its bit within its half (`HALVES`).
 const HALF_PLACES: [u32; ROWS] = [
     1, 2, 4, 8, 16, 32, 64, 128, 256, 512, 1024, 2048, 4096, 8192, 16384, 32768, 65536, 131072,
     262144, 524288, 1048576, 2097152, 4194304, 8388608, 16777216, 33554432, 67108864, 134217728,
@@ -36,13 +38,13 @@ const HALF_PLACES: [u32; ROWS] = [
     8388608, 16777216, 33554432, 67108864, 134217728, 268435456, 536870912, 1073741824, 2147483648,
 ];
 
-// Index of the quarter of a word that has a row's bit.
+// For each row, the index of the quarter of a word that has the row's bit.
 const QUARTERS: [usize; ROWS] = [
     0, 0, 0, 0, 0, 0, 0, 0, 0, 0, 0, 0, 0, 0, 0, 0, 1, 1, 1, 1, 1, 1, 1, 1, 1, 1, 1, 1, 1, 1, 1, 1,
     2, 2, 2, 2, 2, 2, 2, 2, 2, 2, 2, 2, 2, 2, 2, 2, 3, 3, 3, 3, 3, 3, 3, 3, 3, 3, 3, 3, 3, 3, 3, 3,
 ];
 
-// Mask of a row's bit in that quarter.
+// For each row, the mask of its bit within its quarter (`QUARTERS`).
 const QUARTER_PLACES: [u16; ROWS] = [
     1, 2, 4, 8, 16, 32, 64, 128, 256, 512, 1024, 2048, 4096, 8192, 16384, 32768, 1, 2, 4, 8, 16,
     32, 64, 128, 256, 512, 1024, 2048, 4096, 8192, 16384, 32768, 1, 2, 4, 8, 16, 32, 64, 128, 256,
@@ -50,9 +52,9 @@ const QUARTER_PLACES: [u16; ROWS] = [
     4096, 8192, 16384, 32768,
 ];
 
-/// A flag.
+/// A number that is used as a flag, which is set if the number is not 0.
 pub(crate) trait Flag: Copy {
-    // Whether the flag is set.
+    // True if the flag is set.
     ghost set: { Self → Bool };
 
     /// Returns whether the flag is set.
@@ -87,7 +89,8 @@ impl Flag for u32 {
     }
 }
 
-/// Returns a byte for each row of a word: 0 if the row's bit is 0.
+/// Returns a byte for each of the 64 bits of a word. It is 0 if the bit is 0, and not 0 if the bit
+/// is 1.
 #[inline(always)]
 pub(crate) fn flags_of_8(word: u64) -> [u8; ROWS]
     ensures { map (λ flag. not (eqb flag 0)) result ≡ first_of (is_bit word) 64 }
@@ -96,7 +99,8 @@ pub(crate) fn flags_of_8(word: u64) -> [u8; ROWS]
     (bytes & u8x64::from_array(PLACES)).to_array()
 }
 
-/// Returns a number of 16 bits for each row of a word: 0 if the row's bit is 0.
+/// Returns a number of 16 bits for each of the 64 bits of a word. It is 0 if the bit is 0, and not
+/// 0 if the bit is 1.
 #[inline(always)]
 pub(crate) fn flags_of_16(word: u64) -> [u16; ROWS]
     ensures { map (λ flag. not (eqb flag 0)) result ≡ first_of (is_bit word) 64 }
@@ -109,7 +113,8 @@ pub(crate) fn flags_of_16(word: u64) -> [u16; ROWS]
     (quarters & u16x64::from_array(QUARTER_PLACES)).to_array()
 }
 
-/// Returns a number of 32 bits for each row of a word: 0 if the row's bit is 0.
+/// Returns a number of 32 bits for each of the 64 bits of a word. It is 0 if the bit is 0, and not
+/// 0 if the bit is 1.
 #[inline(always)]
 pub(crate) fn flags_of_32(word: u64) -> [u32; ROWS]
     ensures { map (λ flag. not (eqb flag 0)) result ≡ first_of (is_bit word) 64 }

@@ -1,5 +1,5 @@
-//! Folds of numbers by an operator: of all numbers, of those under a mask, or of the present rows
-//! of an array.
+//! Folds of numbers by an operator: of all numbers, of those whose bit of a mask is 1, or of the
+//! present rows of an array.
 
 ghost use Rattle.std.specs.Option.{option_copied};
 ghost use Rattle.std.specs.Prelude.{◌≡◌, ◌<◌, ◌%◌, ℕ, true, false, eqb, not, length, map};
@@ -20,16 +20,16 @@ use polars_arrays_flat::primitive::PrimitiveArray;
 use polars_arrays_numbers::comparison::{Comparison, Unequal};
 use polars_arrays_numbers::native_type::NativeType;
 
-// Number of rows folded at once: those of one word.
+// Number of rows in a block: those with a bit in one word of the mask.
 const BLOCK: usize = 64;
 
-// Number of words in a run, whose bits are tested together.
+// Number of blocks in a run, and so of words of its mask.
 const RUN_WORDS: usize = 32;
 
 // Number of rows in a run.
 const RUN: usize = BLOCK * RUN_WORDS;
 
-/// Folds all numbers.
+/// Returns the fold of all numbers.
 #[inline]
 pub fn fold_all<T: NativeType, O: Operator<T>>(operator: &O, numbers: &[T]) -> T
     ensures { T.value result
@@ -42,7 +42,7 @@ pub fn fold_all<T: NativeType, O: Operator<T>>(operator: &O, numbers: &[T]) -> T
     total
 }
 
-/// Folds all numbers by two operators in one pass.
+/// Returns the folds of all numbers by two operators, in one pass over the numbers.
 #[inline]
 pub fn fold_all_both<T: NativeType, A: Operator<T>, B: Operator<T>>(
     first: &A,
@@ -63,8 +63,8 @@ pub fn fold_all_both<T: NativeType, A: Operator<T>, B: Operator<T>>(
     (total, other)
 }
 
-// Returns the number if its row is present, and the other one otherwise. It is compiled without a
-// branch.
+// Returns `number` if `present` is true, and `other` otherwise. Compiles without a branch, so that
+// loops can be vectorized.
 #[inline(always)]
 fn choose<T: NativeType>(present: bool, number: T, other: T) -> T
     ensures { T.value result ≡ number_or (T.value other) (kept present (Int (T.value number))) }
@@ -72,8 +72,8 @@ fn choose<T: NativeType>(present: bool, number: T, other: T) -> T
     if present { number } else { other }
 }
 
-// Folds the numbers whose flag is set. It has no branch a row and is vectorized, best where flags are
-// as wide as numbers.
+// Returns the fold of the numbers whose flag is set. The loop has no branch in its body and is
+// vectorized. It is fastest if flags are as wide as numbers.
 #[inline(always)]
 fn fold_flagged<T: NativeType, O: Operator<T>, F: Flag>(
     operator: &O,
@@ -93,7 +93,8 @@ fn fold_flagged<T: NativeType, O: Operator<T>, F: Flag>(
     total
 }
 
-// Folds the numbers whose bit of a word is 1, with flags as wide as numbers of 32 bits.
+// Returns the fold of those of 64 numbers whose bit of `word` is 1. The bits are expanded to flags:
+// of 32 bits for numbers of 32 bits, and of 8 bits for others.
 #[inline(always)]
 fn fold_mixed<T: NativeType, O: Operator<T>>(operator: &O, numbers: &[T], word: u64) -> T
     requires { length numbers.now ≡ 64 }
@@ -107,7 +108,8 @@ fn fold_mixed<T: NativeType, O: Operator<T>>(operator: &O, numbers: &[T], word: 
     }
 }
 
-// Folds the numbers whose bit of a word is 1. Words of all ones and of all zeros need no flags.
+// Returns the fold of those of 64 numbers whose bit of `word` is 1. If all bits are 1 or all are 0,
+// the bits aren't expanded to flags.
 #[inline(always)]
 fn fold_word<T: NativeType, O: Operator<T>>(operator: &O, numbers: &[T], word: u64) -> T
     requires { length numbers.now ≡ 64 }
@@ -122,8 +124,8 @@ fn fold_word<T: NativeType, O: Operator<T>>(operator: &O, numbers: &[T], word: u
     }
 }
 
-// Returns the bits that all words of a run have in common. It has no branch a word and is
-// vectorized.
+// Returns the AND of all words of a run's mask, which is `u64::MAX` if all rows are present. The
+// loop has no branch in its body and is vectorized.
 #[inline(always)]
 fn common_bits(mask: &BitMask<'_>) -> u64
     requires { length mask.now ≡ 2048 }
@@ -136,7 +138,7 @@ fn common_bits(mask: &BitMask<'_>) -> u64
     common
 }
 
-// Folds the numbers whose bit is 1, row by row.
+// Returns the fold of the numbers whose bit of the mask is 1. Reads the mask bit by bit.
 #[inline(always)]
 fn fold_by_row<T: NativeType, O: Operator<T>>(operator: &O, numbers: &[T], mask: &BitMask<'_>) -> T
     requires { length mask.now ≡ length numbers.now }
@@ -152,7 +154,7 @@ fn fold_by_row<T: NativeType, O: Operator<T>>(operator: &O, numbers: &[T], mask:
     total
 }
 
-// Folds the numbers whose bit is 1, 64 rows at a time.
+// Returns the fold of the numbers whose bit of the mask is 1. Reads the mask by words of 64 bits.
 fn fold_words<T: NativeType, O: Operator<T>>(operator: &O, numbers: &[T], mask: &BitMask<'_>) -> T
     requires { length mask.now ≡ length numbers.now }
     ensures { T.value result
@@ -172,8 +174,8 @@ fn fold_words<T: NativeType, O: Operator<T>>(operator: &O, numbers: &[T], mask: 
     operator.join(total, last)
 }
 
-// Joins each number whose flag is set to the total of its lane. It has no branch a row and is
-// vectorized.
+// Joins each number whose flag is set to the total at the same index of `lanes`. The loop has no
+// branch in its body and is vectorized.
 #[inline(always)]
 fn join_flagged<T: NativeType, O: Operator<T>, F: Flag>(
     operator: &O,
@@ -195,7 +197,8 @@ fn join_flagged<T: NativeType, O: Operator<T>, F: Flag>(
     }
 }
 
-// Joins each number of 8 or 16 bits whose bit of a word is 1 to the total of its lane.
+// Joins each number whose bit of `word` is 1 to the total at the same index of `lanes`. Called for
+// numbers of 8 or 16 bits.
 #[inline(always)]
 fn join_mixed<T: NativeType, O: Operator<T>>(
     operator: &O,
@@ -217,8 +220,9 @@ fn join_mixed<T: NativeType, O: Operator<T>>(
     }
 }
 
-// Folds the numbers of a run whose bit is 1, of 8 or 16 bits each: every 64th into one lane, so that
-// the total of a vector is taken once.
+// Returns the fold of the numbers of a run whose bit of the mask is 1. Collects 64 totals: number
+// `i` is joined to total `i % 64`. The totals are joined once, after the last number, which is
+// faster than once for each word. Called for numbers of 8 or 16 bits.
 #[inline(always)]
 fn fold_in_lanes<T: NativeType, O: Operator<T>>(
     operator: &O,
@@ -239,7 +243,8 @@ fn fold_in_lanes<T: NativeType, O: Operator<T>>(
     fold_all(operator, &lanes)
 }
 
-// Folds the numbers of a run whose bit is 1, where words are likely to have bits of both kinds.
+// Returns the fold of the numbers of a run whose bit of the mask is 1. Called if the first word of
+// the mask has both ones and zeros; other words are then likely to have both, too.
 #[inline(always)]
 fn fold_mixed_run<T: NativeType, O: Operator<T>>(
     operator: &O,
@@ -259,7 +264,8 @@ fn fold_mixed_run<T: NativeType, O: Operator<T>>(
     }
 }
 
-// Folds the numbers of a run whose bit is 1. Where all bits are 1, one loop folds them all.
+// Returns the fold of the numbers of a run whose bit of the mask is 1. Called if the first word of
+// the mask is all ones. If all other words are, too, one loop folds all numbers of the run.
 #[inline(always)]
 fn fold_even_run<T: NativeType, O: Operator<T>>(
     operator: &O,
@@ -279,7 +285,8 @@ fn fold_even_run<T: NativeType, O: Operator<T>>(
     }
 }
 
-// Folds the numbers of a run whose bit is 1, in the way that its first word calls for.
+// Returns the fold of the numbers of a run whose bit of the mask is 1. The first word of the mask
+// chooses the function that is likely to be fastest; the result is the same.
 #[inline(always)]
 fn fold_run<T: NativeType, O: Operator<T>>(operator: &O, numbers: &[T], mask: &BitMask<'_>) -> T
     requires run { length numbers.now ≡ 2048 }
@@ -295,7 +302,8 @@ fn fold_run<T: NativeType, O: Operator<T>>(operator: &O, numbers: &[T], mask: &B
     }
 }
 
-/// Folds the numbers whose bit is 1, in runs of 2048 rows.
+/// Returns the fold of the numbers whose bit of the mask is 1. If there are none, returns the
+/// number that folds start with. Works on runs of 2048 rows.
 pub fn fold_present<T: NativeType, O: Operator<T>>(
     operator: &O,
     numbers: &[T],
@@ -319,7 +327,8 @@ pub fn fold_present<T: NativeType, O: Operator<T>>(
     operator.join(total, last)
 }
 
-/// Folds the numbers whose bit of the validity is 1, or all numbers without a validity.
+/// Returns the fold of the numbers whose bit of the validity is 1, or of all numbers if there is no
+/// validity.
 pub fn fold_under<T: NativeType, O: Operator<T>>(
     operator: &O,
     numbers: &[T],
@@ -336,7 +345,8 @@ pub fn fold_under<T: NativeType, O: Operator<T>>(
     }
 }
 
-/// Folds the present rows of an array.
+/// Returns the fold of the present rows of an array. If no row is present, returns the number that
+/// folds start with.
 pub fn fold_rows<T: NativeType, O: Operator<T>>(operator: &O, array: &PrimitiveArray<T>) -> T
     ensures { T.value result
         ≡ folded O.joined (O.neutral operator.now) (number_rows T.value array.now) }
@@ -344,7 +354,7 @@ pub fn fold_rows<T: NativeType, O: Operator<T>>(operator: &O, array: &PrimitiveA
     fold_under(operator, array.values(), array.validity())
 }
 
-/// Folds the present rows of an array, or returns `None` if there are none.
+/// Returns the fold of the present rows of an array, or `None` if no row is present.
 pub fn reduce_rows<T: NativeType, O: Operator<T>>(
     operator: &O,
     array: &PrimitiveArray<T>,
@@ -352,10 +362,11 @@ pub fn reduce_rows<T: NativeType, O: Operator<T>>(
     ensures { option_map T.value result
         ≡ folded_if_any O.joined (O.neutral operator.now) (number_rows T.value array.now) }
 {
-    // Has no effect at run time. The proof learns from it that the validity has a bit for each row.
+    // Has no effect at run time. Tells the proof that the validity has a bit for each row.
     let _validity = array.validity();
     let total = fold_rows(operator, array);
-    // Nulls are counted only where the total is that of no rows.
+    // Nulls are counted only if the total is the number that folds start with, as it is without
+    // present rows.
     if Unequal.compare(total, operator.start()) {
         return Some(total);
     }

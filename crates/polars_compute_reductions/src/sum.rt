@@ -1,4 +1,4 @@
-//! Wrapping sums.
+//! Wrapping sums of numbers.
 
 ghost use Rattle.std.specs.Prelude.{◌≡◌, ◌+ℤ◌, length};
 ghost use Rattle.num_traits.specs.Laws.{bit_len};
@@ -16,9 +16,9 @@ use polars_arrays_flat::array::Array;
 use polars_arrays_flat::primitive::PrimitiveArray;
 use polars_arrays_numbers::native_type::NativeType;
 
-/// Wrapping addition.
+/// A number type with wrapping addition.
 pub trait WrappingAdd: WrappingNumber {
-    /// Returns the sum of the two numbers, wrapped.
+    /// Returns the sum of the two numbers, wrapped to the type.
     fn wrapping_add(&self, v: &Self) -> Self
         ensures { Self.value result
             ≡ wrapped Self.low (bit_len Self.width) (Self.value self.now +ℤ Self.value v.now) };
@@ -31,14 +31,15 @@ impl<T: WrappingNumber + num_traits::WrappingAdd> WrappingAdd for T {
     }
 }
 
-/// Wrapping sums of slices.
+/// A number type whose slices have wrapping sums.
 pub trait WrappingSum: NativeType {
-    /// Returns the sum of the numbers, wrapped, or 0 for none.
+    /// Returns the sum of the numbers, wrapped to the type, or 0 if there are none.
     fn wrapping_sum(vals: &[Self]) -> Self
         ensures { Self.value result
             ≡ wrapped Self.low (bit_len Self.width) (total (number_slots Self.value vals.now)) };
 
-    /// Returns the sum of the numbers whose bit is 1, wrapped, or 0 for none.
+    /// Returns the sum of the numbers whose bit of `mask` is 1, wrapped to the type, or 0 if there
+    /// are none.
     fn wrapping_sum_with_validity(vals: &[Self], mask: &BitMask<'_>) -> Self
         requires { length mask.now ≡ length vals.now }
         ensures { Self.value result
@@ -46,7 +47,7 @@ pub trait WrappingSum: NativeType {
             (total (masked mask.now (number_slots Self.value vals.now))) };
 }
 
-/// A fold of numbers to their sum, wrapped.
+/// The operator of wrapping addition, whose folds are wrapped sums.
 #[derive(Drop)]
 pub struct Sum;
 
@@ -84,7 +85,7 @@ impl<T: NativeType + WrappingAdd + Zero> WrappingSum for T {
     }
 }
 
-/// Returns the sum of the present rows, wrapped, or 0 for none.
+/// Returns the sum of the present rows, wrapped to the type, or 0 if no row is present.
 pub fn wrapping_sum_arr<T: WrappingSum>(array: &PrimitiveArray<T>) -> T
     ensures { T.value result
         ≡ wrapped T.low (bit_len T.width) (total (number_rows T.value array.now)) }

@@ -1,4 +1,4 @@
-//! Counts of ones and zeros of truth values, as numbers of one bit.
+//! Counts of ones and of zeros in truth values, which have one bit each.
 
 ghost use Rattle.std.specs.Prelude.{◌≡◌, map, pos, length, count_by, IfOk, MatchResult};
 ghost use Rattle.polars_arrays_bits.specs.Errors.{IsMemory};
@@ -14,7 +14,8 @@ use polars_arrays_flat::boolean::BooleanArray;
 use polars_arrays_flat::primitive::PrimitiveArray;
 use std::alloc::{AllocError, Global};
 
-// Returns the number of ones of a bit, or of zeros.
+// Returns 1 if the bit is counted, and 0 otherwise. If `ones` is true, ones are counted, otherwise
+// zeros.
 #[inline(always)]
 fn count_bit(ones: bool, bit: bool) -> u32
     ensures { result ≡ truth_count ones bit }
@@ -25,7 +26,8 @@ fn count_bit(ones: bool, bit: bool) -> u32
     }
 }
 
-// Returns the number of ones of each bit, or of zeros.
+// Returns a vector with 1 for each bit that is counted, and 0 for each other bit. If `ones` is
+// true, ones are counted, otherwise zeros.
 fn count_each_bit(alloc: Global, bits: &Bitmap, ones: bool) -> Result<Vec<u32>, AllocError>
     ensures { IfOk result (λ counts. counts.items ≡ map (truth_count ones) bits.now) }
 {
@@ -36,7 +38,9 @@ fn count_each_bit(alloc: Global, bits: &Bitmap, ones: bool) -> Result<Vec<u32>, 
     Ok(counts)
 }
 
-/// Returns the number of ones of each row, or of zeros. Nulls stay null. The error is `Memory`.
+/// Returns an array with 1 for each row that is counted, and 0 for each other present row. If
+/// `ones` is true, true rows are counted, otherwise false rows. Null rows stay null. The error is
+/// `Memory`.
 pub(crate) fn count_truth_rows(
     alloc: Global,
     array: &BooleanArray,

@@ -1,4 +1,4 @@
-//! Number types with wrapping arithmetic.
+//! The trait `WrappingNumber`: number types with wrapping arithmetic.
 
 ghost use Rattle.std.specs.Prelude.{◌≡◌, ℤ, refl};
 ghost use Rattle.std.specs.Int.{w8, w16, w32, w64};
@@ -8,17 +8,17 @@ ghost use Rattle.polars_arrays_numbers.specs.WrappingLaws.{signed_wrapped, unsig
 
 use num_traits::{Bounded, FixedWidth};
 
-/// A type of numbers of 8 to 64 bits with wrapping arithmetic.
+/// A type of integers of 8 to 64 bits with wrapping arithmetic.
 pub trait WrappingNumber: FixedWidth + Bounded {
-    // The type has 2 to the width numbers, without gaps.
+    // The type has all numbers from `low` to `high`, which are 2 to the power of its width in bits.
     ghost range_law: { HasAllOf Self.low Self.high (bit_len Self.width) };
 
     // Arithmetic of the type wraps as defined.
     ghost wrapped_law: { (n : ℤ) → Self.wrap n ≡ wrapped Self.low (bit_len Self.width) n };
 }
 
-/// States a law of wrapping: a wrapped whole number is the only number of the type that is
-/// congruent to it modulo 2 to the width.
+/// States that a whole number, wrapped to the type, is the only number of the type that is
+/// congruent to the whole number modulo 2^n. The type has n bits.
 pub fn law_wrapped<T: WrappingNumber>()
     ensures congruent { (n : ℤ)
         → IsWrapped T.low T.high (bit_len T.width) n (wrapped T.low (bit_len T.width) n) }

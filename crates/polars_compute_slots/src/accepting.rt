@@ -1,4 +1,4 @@
-//! Tests of whether rows lie in a range.
+//! Checks that the rows of an array lie in a range.
 
 ghost use Rattle.std.specs.Option.{option_copied};
 ghost use Rattle.std.specs.Prelude.{◌≡◌, ◌<◌, length};
@@ -15,7 +15,8 @@ use polars_arrays_flat::array::Array;
 use polars_arrays_flat::primitive::PrimitiveArray;
 use polars_arrays_flat::validity::is_present;
 
-// Returns whether a row is null or a number of a range.
+// Returns whether a row is null or its number lies in the range. `present` says that the row is
+// present.
 fn accepts_row<T: UniqueNumber>(span: &Span<T>, present: bool, number: T) -> bool
     ensures { result
         ≡ is_within (numbers_from (T.value span.now.least) span.now.count)
@@ -24,7 +25,8 @@ fn accepts_row<T: UniqueNumber>(span: &Span<T>, present: bool, number: T) -> boo
     if present { span.holds(number) } else { true }
 }
 
-// Returns whether each number is masked or in a range.
+// Returns whether each number is masked or lies in the range. `validity` has a bit for each number;
+// without it no number is masked.
 fn accepts_under<T: UniqueNumber>(span: &Span<T>, numbers: &[T], validity: Option<&Bitmap>) -> bool
     requires { HasBits (length numbers.now) (option_copied validity) }
     ensures { result
@@ -39,7 +41,7 @@ fn accepts_under<T: UniqueNumber>(span: &Span<T>, numbers: &[T], validity: Optio
     true
 }
 
-/// Returns whether each row is null or a number of a range.
+/// Returns whether each row of the array is null or its number lies in the range.
 pub fn accepts_rows<T: UniqueNumber>(span: &Span<T>, array: &PrimitiveArray<T>) -> bool
     ensures { result
         ≡ are_within (numbers_from (T.value span.now.least) span.now.count)

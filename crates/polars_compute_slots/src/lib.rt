@@ -1,5 +1,5 @@
-//! Sets of the seen values of a range: a slot for each value, ascending, and one after them for
-//! null.
+//! Records which values of a range occur in arrays. There is a slot (a flag) for each value of the
+//! range, in ascending order, and a last slot for null.
 #![tactic(auto)]
 
 pub mod accepting;

@@ -1,4 +1,4 @@
-//! Contents of slots, as arrays and counts.
+//! Counts the values whose slots are set, and lists them in an array.
 
 ghost use Rattle.std.specs.Prelude.{◌≡◌, ◌↔◌, ◌+◌, ◌++◌, ◌<◌, ◌≤ℤ◌, ◌<ℤ◌, ◌^◌, ℤ, pos, cond, []};
 ghost use Rattle.std.specs.Prelude.{◌∷◌, true, false, length, map, replicate, vec_len};
@@ -19,7 +19,7 @@ use polars_arrays_bits::error::ComputeError;
 use polars_arrays_flat::primitive::PrimitiveArray;
 use std::alloc::{AllocError, Global};
 
-/// Returns whether the slots of all values and of null are set.
+/// Returns whether the slots of all `count` values and the slot of null are set.
 pub fn all_set<S: Slots>(slots: &S, count: usize) -> bool
     requires { length (S.set_slots slots.now) ≡ count + 1 }
     ensures { (least : ℤ) → result ≡ all_seen (slot_state least count (S.set_slots slots.now)) }
@@ -27,7 +27,7 @@ pub fn all_set<S: Slots>(slots: &S, count: usize) -> bool
     slots.count_values(count) == count && slots.is_set(count)
 }
 
-/// Returns the number of values whose slots are set.
+/// Returns the number of values whose slots are set, not counting null. There are `count` values.
 pub fn count_set<S: Slots>(slots: &S, count: usize) -> usize
     requires { length (S.set_slots slots.now) ≡ count + 1 }
     ensures { (least : ℤ) → result
@@ -36,7 +36,8 @@ pub fn count_set<S: Slots>(slots: &S, count: usize) -> usize
     slots.count_values(count)
 }
 
-/// Returns the number of slots that are set, including that of null.
+/// Returns the number of slots that are set, including that of null. There are `count` values
+/// besides null.
 pub fn count_finalised<S: Slots>(slots: &S, count: usize) -> usize
     requires size { length (S.set_slots slots.now) ≡ count + 1 }
     requires few { count + 1 < 2 ^ 64 }
@@ -46,7 +47,7 @@ pub fn count_finalised<S: Slots>(slots: &S, count: usize) -> usize
     slots.count_values(count) + usize::from(slots.is_set(count))
 }
 
-// Pushes a number if it is in the set.
+// Pushes `number` if `in_set` is true. The vector must have spare capacity, since it does not grow.
 pub(crate) fn push_if<T: UniqueNumber>(numbers: &mut Vec<T>, in_set: bool, number: T)
     requires { vec_len numbers.old < vec_capacity numbers.old }
     ensures items { numbers.new.items ≡ numbers.old.items ++ cond in_set (number ∷ []) [] }
@@ -57,7 +58,8 @@ pub(crate) fn push_if<T: UniqueNumber>(numbers: &mut Vec<T>, in_set: bool, numbe
     }
 }
 
-// Lists the numbers whose slots are set, ascending, with room for one more.
+// Returns a vector of the numbers of the range whose slots are set, ascending. It has spare
+// capacity for one more number.
 fn list_numbers<T: UniqueNumber, S: Slots>(
     alloc: Global,
     slots: &S,
@@ -79,7 +81,7 @@ fn list_numbers<T: UniqueNumber, S: Slots>(
     Ok(numbers)
 }
 
-/// Creates `n` true bits and a last one that is false. The error is `Memory`.
+/// Creates a bitmap of `n` true bits and a last bit that is false. The error is `Memory`.
 pub fn last_masked(alloc: Global, n: usize) -> Result<Bitmap, ComputeError>
     requires { n + 1 < 2 ^ 64 }
     ensures { MatchResult result (λ bits. bits ≡ replicate n true ++ false ∷ []) IsMemory }
@@ -90,7 +92,8 @@ pub fn last_masked(alloc: Global, n: usize) -> Result<Bitmap, ComputeError>
     Ok(bits.freeze())
 }
 
-// Returns an array of these numbers and of one more row, which is null and stored as 0.
+// Returns an array of the numbers and of a last row that is null. The null row stores 0. The error
+// is `Memory`.
 pub(crate) fn with_null<T: UniqueNumber>(
     alloc: Global,
     numbers: Vec<T>,
@@ -106,8 +109,8 @@ pub(crate) fn with_null<T: UniqueNumber>(
     Ok(PrimitiveArray::from_vec(numbers).with_validity(Some(validity)))
 }
 
-/// Returns an array of the numbers whose slots are set, in ascending order, with a null last if the
-/// slot of null is set. The error is `Memory`.
+/// Returns an array of the numbers of the range whose slots are set, ascending. A null is the last
+/// row if the slot of null is set. The error is `Memory`.
 pub fn list_set<T: UniqueNumber, S: Slots>(
     alloc: Global,
     slots: &S,
@@ -129,14 +132,15 @@ pub fn list_set<T: UniqueNumber, S: Slots>(
     }
 }
 
-// Returns whether a number is in the set and at least a bound.
+// Returns whether `in_set` is true and `number` is at least `bound`.
 fn is_from<T: UniqueNumber>(in_set: bool, number: T, bound: i128) -> bool
     ensures { IsTrue result ↔ (IsTrue in_set × (bound ≤ℤ T.value number)) }
 {
     in_set && number.whole() >= bound
 }
 
-/// Returns the least value that is at least a bound and whose slot is set.
+/// Returns the least number of the range that is at least `bound` and whose slot is set, or `None`
+/// if there is no such number.
 pub fn least_from<T: UniqueNumber, S: Slots>(slots: &S, span: &Span<T>, bound: i128) -> Option<T>
     requires size { length (S.set_slots slots.now) ≡ span.now.count + 1 }
     requires numbers { AreNumbers T.low T.high (T.value span.now.least) span.now.count }

@@ -1,4 +1,4 @@
-//! Marks the values that occur, one slot for each value of a range.
+//! Sets the slots of the values that occur in an array.
 
 ghost use Rattle.std.specs.Prelude.{◌≡◌, ◌+◌, ◌≤◌, length};
 ghost use Rattle.polars_arrays_flat.specs.ArrayRows.{number_rows};
@@ -16,10 +16,11 @@ use polars_arrays_flat::array::Array;
 use polars_arrays_flat::primitive::PrimitiveArray;
 use polars_arrays_numbers::steps::Steps;
 
-// Number of rows read between two tests of whether all values were seen.
+// Number of rows that are read between two checks of whether all values were seen.
 const BLOCK: usize = 512;
 
-// Number of rows read at once if some are null: those of a word.
+// Number of rows that are read at once if some rows are null: those with a bit in one word of the
+// mask.
 const WORD_ROWS: usize = 64;
 
 // Sets the slot of each number.
@@ -36,7 +37,8 @@ fn mark_all<T: UniqueNumber, S: Slots>(slots: &mut S, span: &Span<T>, numbers: &
     }
 }
 
-// Sets the slots of 64 rows. A row is present if its bit of a word is 1.
+// Sets the slots of 64 rows: that of the number if the row's bit of `word` is 1, and that of null
+// otherwise.
 #[inline(always)]
 fn mark_word<T: UniqueNumber, S: Slots>(slots: &mut S, span: &Span<T>, numbers: &[T], word: u64)
     requires size { length (S.set_slots slots.old) ≡ span.now.count + 1 }
@@ -53,7 +55,8 @@ fn mark_word<T: UniqueNumber, S: Slots>(slots: &mut S, span: &Span<T>, numbers: 
     }
 }
 
-// Sets the slots of rows, row by row. A row is present if its bit is 1.
+// Sets the slots of the rows: that of the number if the row's bit of the mask is 1, and that of
+// null otherwise. Reads the mask bit by bit.
 #[inline(always)]
 fn mark_few<T: UniqueNumber, S: Slots>(
     slots: &mut S,
@@ -74,7 +77,8 @@ fn mark_few<T: UniqueNumber, S: Slots>(
     }
 }
 
-// Sets the slots of rows, 64 rows at a time. A row is present if its bit is 1.
+// Sets the slots of the rows: that of the number if the row's bit of the mask is 1, and that of
+// null otherwise. Reads the mask by words of 64 bits.
 #[inline(always)]
 fn mark_masked<T: UniqueNumber, S: Slots>(
     slots: &mut S,
@@ -100,8 +104,8 @@ fn mark_masked<T: UniqueNumber, S: Slots>(
     mark_few(slots, span, &numbers[at..at + rest], &mask.window(at, rest));
 }
 
-// Sets the slots of numbers, block by block until those of all values are set, and counts the
-// numbers read.
+// Sets the slots of the numbers, in blocks of 512. Stops after the block in which the slots of all
+// values are set. Adds the number of numbers read to `steps`.
 #[inline(always)]
 fn mark_until_full<T: UniqueNumber, S: Slots>(
     slots: &mut S,
@@ -128,8 +132,9 @@ fn mark_until_full<T: UniqueNumber, S: Slots>(
     }
 }
 
-// Sets the slots of rows, and counts the rows read. A row is present if its bit is 1. If one is
-// null, all are read; otherwise whole blocks until the slots of all values are set.
+// Sets the slots of the rows: that of the number if the row's bit of the validity is 1, and that of
+// null otherwise. Adds the number of rows read to `steps`. If a row is null, all rows are read.
+// Otherwise blocks of 512 rows are read until the slots of all values are set.
 #[inline(always)]
 fn mark_under<T: UniqueNumber, S: Slots>(
     slots: &mut S,
@@ -158,7 +163,9 @@ fn mark_under<T: UniqueNumber, S: Slots>(
     steps.add(numbers.len());
 }
 
-/// Sets the slots of an array's rows, and counts the rows read.
+/// Sets the slots of an array's rows, and adds the number of rows read to `steps`. If a row is
+/// null, all rows are read. Otherwise blocks of 512 rows are read until the slots of all values are
+/// set.
 #[inline(always)]
 pub fn mark_rows<T: UniqueNumber, S: Slots>(
     slots: &mut S,

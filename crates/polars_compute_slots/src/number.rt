@@ -1,20 +1,20 @@
-//! Number types whose distinct values are collected.
+//! The trait `UniqueNumber`: number types whose distinct values can be collected.
 
 ghost use Rattle.std.specs.Prelude.{◌≡◌, ◌≤ℤ◌, ◌^◌, pos, neg_ℤ};
 
 use num_traits::Zero;
 use polars_arrays_numbers::native_type::NativeType;
 
-/// A type of numbers of 8 to 64 bits.
+/// A type of integers of 8 to 64 bits whose distinct values can be collected.
 pub trait UniqueNumber: NativeType + Zero {
-    /// Returns the value as a whole number.
+    /// Returns the number as an `i128`.
     fn whole(self) -> i128
         ensures number { result ≡ Self.value self }
         ensures least { Self.low ≤ℤ Self.value self }
         ensures greatest { Self.value self ≤ℤ Self.high }
         ensures narrow { (neg_ℤ (pos (2 ^ 64)) ≤ℤ result) × (result ≤ℤ pos (2 ^ 64)) };
 
-    /// Returns the value of a whole number within the type's bounds.
+    /// Converts an `i128` to the type. The number must lie within the bounds of the type.
     fn of_whole(number: i128) -> Self
         requires least { Self.low ≤ℤ number }
         requires greatest { number ≤ℤ Self.high }

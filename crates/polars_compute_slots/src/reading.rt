@@ -1,5 +1,5 @@
-//! Contents of slots in a reading in which some values of the range mean null, as the keys to null
-//! entries of a dictionary do.
+//! Counts and lists the values of slots if some values of the range mean null. For example, the
+//! values are keys of a dictionary, and the key of a null entry means null.
 
 ghost use Rattle.std.specs.Prelude.{◌≡◌, ◌+◌, ◌<◌, ◌≤◌, ◌^◌, ◌&&◌, ◌||◌, ℤ, Bool, false, cond, not};
 ghost use Rattle.std.specs.Prelude.{length, map, vec_len, vec_capacity, IfOk, MatchResult};
@@ -20,25 +20,26 @@ use std::alloc::{AllocError, Global};
 
 /// The values of a range that mean null.
 pub trait NullValues {
-    // Requirement of the calls below.
+    // Condition under which the methods may be called.
     ghost good: { Self → Type 0 };
 
-    // Values that mean null.
+    // True for the values that mean null.
     ghost is_null: { Self → ℤ → Bool };
 
-    /// Returns `false` only if no value means null.
+    /// Returns whether some value may mean null. If the result is `false`, no value means null.
     fn may_be_null(&self) -> bool
         requires { good self.now }
         ensures { result ≡ false → (value : ℤ) → is_null self.now value ≡ false };
 
-    /// Returns whether a value means null.
+    /// Returns whether the value means null.
     fn stands_for_null(&self, value: i128) -> bool
         requires { good self.now }
         ensures { result ≡ is_null self.now value };
 }
 
-/// The number of values of a state as it is read, the number of them that were seen, and whether a
-/// null was.
+/// The counts of a state in which some values mean null. `values` is the number of values of the
+/// range that don't mean null, and `seen` the number of these that were seen. `has_null` says that
+/// a null was seen, or a value that means null.
 #[derive(Clone, Copy, Drop)]
 pub struct ReadCounts {
     pub values: usize,
@@ -47,8 +48,8 @@ pub struct ReadCounts {
 }
 
 impl ReadCounts {
-    // Adds one slot to the counts: `is_null` says that the slot stands for null, `is_seen` that a row
-    // has it.
+    // Counts one value of the range. `is_null` says that it means null, and `is_seen` that its slot
+    // is set.
     fn add(&mut self, is_null: bool, is_seen: bool)
         requires values { self.old.values + 1 < 2 ^ 64 }
         requires seen { self.old.seen + 1 < 2 ^ 64 }
@@ -62,7 +63,7 @@ impl ReadCounts {
     }
 }
 
-// Returns the counts of slots if no value means null.
+// Returns the counts if no value means null. `count` is the number of values of the range.
 fn whole_counts<S: Slots>(slots: &S, count: usize) -> ReadCounts
     requires { length (S.set_slots slots.now) ≡ count + 1 }
     ensures counted { (least : ℤ)
@@ -76,7 +77,8 @@ fn whole_counts<S: Slots>(slots: &S, count: usize) -> ReadCounts
     }
 }
 
-/// Returns the counts of slots as they are read.
+/// Counts the values of the range that don't mean null, and those of them that were seen. `nulls`
+/// says which values mean null.
 pub fn read_counts<T: UniqueNumber, S: Slots, N: NullValues>(
     slots: &S,
     span: &Span<T>,
@@ -106,7 +108,8 @@ pub fn read_counts<T: UniqueNumber, S: Slots, N: NullValues>(
     counts
 }
 
-// Returns the values that were seen and do not mean null, ascending, with room for one more.
+// Returns a vector of the values that were seen and don't mean null, ascending. It is allocated
+// with capacity `room`, which must be greater than the number of these values.
 fn list_values<T: UniqueNumber, S: Slots, N: NullValues>(
     alloc: Global,
     slots: &S,
@@ -137,8 +140,8 @@ fn list_values<T: UniqueNumber, S: Slots, N: NullValues>(
     Ok(numbers)
 }
 
-/// Returns an array of the values that were seen, ascending, without those that mean null. A null
-/// comes last if a null was seen, or a value that means null. The error is `Memory`.
+/// Returns an array of the values that were seen and don't mean null, ascending. A null is the last
+/// row if a null was seen, or a value that means null. The error is `Memory`.
 pub fn list_read<T: UniqueNumber, S: Slots, N: NullValues>(
     alloc: Global,
     slots: &S,

@@ -1,4 +1,5 @@
-//! Slots that are set one by one. Up to 128 are stored in one word, and more in a bitmap.
+//! The trait `Slots`: flags that are set one by one. Up to 128 slots are stored in one word
+//! (`WordSlots`), and more in a `MutableBitmap`.
 
 ghost use Rattle.std.specs.Prelude.{◌≡◌, ◌+◌, ◌<◌, ◌≤◌, ◌^◌, ◌||◌, List, Bool, true, false, length};
 ghost use Rattle.std.specs.Prelude.{count_by, take, replicate, slice_get, slice_set};
@@ -7,12 +8,12 @@ ghost use Rattle.std.specs.Simd.Lanes.{zip2};
 use polars_arrays_bits::mutable_bitmap::MutableBitmap;
 use std::marker::Model;
 
-/// The number of slots of one word.
+/// The greatest number of slots that one word can store.
 pub const WORD_SLOTS: usize = 128;
 
-/// Slots, each set or not.
+/// A list of slots, each of which is set or not.
 pub trait Slots {
-    // Flags of the slots: true if the slot is set.
+    // A flag for each slot, true if the slot is set.
     ghost set_slots: { Self → List Bool };
 
     /// Sets slot `i`.
@@ -25,18 +26,19 @@ pub trait Slots {
         requires { i < length (set_slots self.now) }
         ensures { slice_get (set_slots self.now) i ≡ Some result };
 
-    /// Counts the set slots among the first `n` of `n + 1`.
+    /// Returns the number of set slots, not counting the last one, which is that of null. There are
+    /// `n + 1` slots.
     fn count_values(&self, n: usize) -> usize
         requires { length (set_slots self.now) ≡ n + 1 }
         ensures { result ≡ count_by (λ b. b) (take n (set_slots self.now)) };
 
-    /// Sets the slots that are set in `other`.
+    /// Sets the slots that are set in `other`, which has the same number of slots.
     fn join(&mut self, other: &Self)
         requires { length (set_slots other.now) ≡ length (set_slots self.old) }
         ensures { set_slots self.new ≡ zip2 ◌||◌ (set_slots self.old) (set_slots other.now) };
 }
 
-/// At most 128 slots, in one word.
+/// A list of at most 128 slots, stored in one word.
 #[derive(Drop)]
 pub struct WordSlots {
     // bits from `len` on are 0
@@ -64,7 +66,7 @@ impl WordSlots {
         WordSlots { word: 0, len }
     }
 
-    /// Returns a copy, which a loop can keep in registers.
+    /// Returns a copy. A loop that sets slots of a local copy can keep the word in registers.
     #[inline(always)]
     pub fn copied(&self) -> WordSlots
         ensures { result ≡ self.now }
@@ -83,8 +85,8 @@ impl WordSlots {
     }
 }
 
-// Returns the number whose only set bit is bit `i`. Shifting one half and choosing between the two
-// is less work than a shift of 128 bits.
+// Returns 2^i. Shifting a word of 64 bits and then choosing the half is faster than a shift of 128
+// bits.
 #[inline(always)]
 fn one_bit(i: usize) -> u128
     requires { i < 128 }

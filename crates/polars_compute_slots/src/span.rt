@@ -1,5 +1,5 @@
-//! Ranges of numbers. A state of distinct values has a slot for each number of its range, and a
-//! last one for null.
+//! The range of the numbers whose distinct values a state collects. Each number of the range has a
+//! slot, and null has the last slot.
 
 ghost use Rattle.std.specs.Prelude.{◌≡◌, ◌<◌, ◌^◌, ◌+ℤ◌, ◌-ℤ◌, ◌≤ℤ◌, ◌<ℤ◌, ◌↔◌, pos, unsigned_abs};
 ghost use Rattle.std.specs.Prelude.{IsTrue};
@@ -12,15 +12,15 @@ use crate::number::UniqueNumber;
 use polars_arrays_numbers::comparison::{Comparison, Equal};
 use polars_arrays_numbers::native_type::least_value;
 
-/// A range of `count` numbers from `least` on. A number's slot is its distance from the least; null
-/// has the slot after all numbers.
+/// The range of `count` numbers from `least` on. The slot of a number is `number - least`, and the
+/// slot of null is `count`.
 #[derive(Clone, Copy, Drop)]
 pub struct Span<T: UniqueNumber> {
     pub least: T,
     pub count: usize,
 }
 
-// Returns `number - least`, for a `number` that is at least `least`.
+// Returns `number - least`. `number` is at least `least`.
 #[inline(always)]
 fn distance<T: UniqueNumber>(least: T, number: T) -> usize
     requires order { T.value least ≤ℤ T.value number }
@@ -32,8 +32,8 @@ fn distance<T: UniqueNumber>(least: T, number: T) -> usize
     (number.whole() - least.whole()) as usize
 }
 
-/// Returns whether the numbers from `least` to `greatest` and null can have a slot each: they are
-/// in order, and the number of slots fits in 64 bits.
+/// Returns whether a range from `least` to `greatest` can be created: whether `least` is at most
+/// `greatest`, and the number of slots, `greatest - least + 2`, is at most `usize::MAX`.
 pub fn span_fits<T: UniqueNumber>(least: T, greatest: T) -> bool
     ensures { IsTrue result ↔ RangeFits (T.value least) (T.value greatest) }
 {
@@ -44,7 +44,7 @@ pub fn span_fits<T: UniqueNumber>(least: T, greatest: T) -> bool
 }
 
 impl<T: UniqueNumber> Span<T> {
-    /// Creates the range of the numbers from `least` to `greatest`.
+    /// Creates the range of the numbers from `least` to `greatest`, both included.
     pub fn between(least: T, greatest: T) -> Span<T>
         requires { RangeFits (T.value least) (T.value greatest) }
         ensures least { result.least ≡ least }
@@ -57,7 +57,7 @@ impl<T: UniqueNumber> Span<T> {
         }
     }
 
-    /// Creates a range without numbers. Its one slot is that of null.
+    /// Creates a range without numbers. Its only slot is that of null.
     pub fn empty() -> Span<T>
         ensures none { result.count ≡ 0 }
         ensures numbers { AreNumbers T.low T.high (T.value result.least) 0 }
@@ -68,7 +68,7 @@ impl<T: UniqueNumber> Span<T> {
         Span { least, count: 0 }
     }
 
-    /// Returns the slot of a number of the range: its distance from the least one.
+    /// Returns the slot of a number of the range: `number - least`.
     #[inline(always)]
     pub fn slot(&self, number: T) -> usize
         requires { HasSlot (T.value self.now.least) self.now.count (Int (T.value number)) }
@@ -79,7 +79,7 @@ impl<T: UniqueNumber> Span<T> {
         distance(self.least, number)
     }
 
-    /// Returns the number whose slot this is: `least + slot`.
+    /// Returns the number that has the slot: `least + slot`.
     #[inline(always)]
     pub fn number(&self, slot: usize) -> T
         requires numbers { AreNumbers T.low T.high (T.value self.now.least) self.now.count }
@@ -102,7 +102,7 @@ impl<T: UniqueNumber> Span<T> {
         }
     }
 
-    /// Returns whether two ranges have the same numbers.
+    /// Returns whether two ranges have the same numbers. All ranges without numbers are the same.
     pub fn same(&self, other: &Span<T>) -> bool
         ensures { IsTrue result
             ↔ (numbers_from (T.value self.now.least) self.now.count
@@ -111,8 +111,8 @@ impl<T: UniqueNumber> Span<T> {
         self.count == other.count && (self.count == 0 || Equal.compare(self.least, other.least))
     }
 
-    /// Returns the slot of a row: that of `number` if the row is present, and that of null
-    /// otherwise. It is compiled without a branch.
+    /// Returns the slot of a row: that of `number` if `present` is true, and that of null
+    /// otherwise. Compiles without a branch.
     #[inline(always)]
     pub fn row_slot(&self, present: bool, number: T) -> usize
         requires { HasSlot (T.value self.now.least) self.now.count

@@ -1,4 +1,4 @@
-//! States of truth values.
+//! Distinct values of arrays of truth values.
 
 ghost use Rattle.std.specs.Prelude.{◌≡◌, ◌+◌, ◌++◌, ◌<◌, ◌≤◌, cond, count_by, [], ◌∷◌, pos, true};
 ghost use Rattle.std.specs.Prelude.{false, length, replicate, Some, None, if◌then◌else◌, IsTrue};
@@ -19,7 +19,7 @@ use polars_compute_slots::listing::last_masked;
 use std::alloc::Global;
 use std::marker::Model;
 
-/// A state of truth values.
+/// A state that records whether `false`, `true` and null were seen in arrays of truth values.
 #[derive(Drop)]
 pub struct BooleanUniqueKernelState {
     seen_false: bool,
@@ -37,7 +37,7 @@ impl Model for BooleanUniqueKernelState {
         { values = (pos 0, s.seen_false) ∷ (pos 1, s.seen_true) ∷ []; has_null = s.seen_null } };
 }
 
-// The distinct values of rows.
+// The distinct rows of an array: whether it has rows that are false, true and null.
 #[derive(Drop)]
 struct Held {
     falses: bool,
@@ -45,7 +45,7 @@ struct Held {
     nulls: bool,
 }
 
-// Counts the rows that are true, by words.
+// Returns the number of rows that are present and true. Counts 64 rows at a time.
 fn true_rows(array: &BooleanArray) -> usize
     ensures { result ≡ count_by (is_value (pos 1)) (truth_rows array.now) }
 {
@@ -55,13 +55,13 @@ fn true_rows(array: &BooleanArray) -> usize
     }
 }
 
-// Returns the distinct values of the rows of an array.
+// Returns whether an array has rows that are false, true and null.
 fn held_by(array: &BooleanArray) -> Held
     ensures falses { result.falses ≡ holds (truth_rows array.now) (pos 0) }
     ensures trues { result.trues ≡ holds (truth_rows array.now) (pos 1) }
     ensures nulls { result.nulls ≡ any_null (truth_rows array.now) }
 {
-    // Has no effect at run time. The proof learns from it that the validity has a bit for each row.
+    // Has no effect at run time. Tells the proof that the validity has a bit for each row.
     let _validity = array.validity();
     let nulls = array.null_count();
     let trues = true_rows(array);
@@ -96,7 +96,7 @@ impl Default for BooleanUniqueKernelState {
     }
 }
 
-// Pushes a truth value if it was seen.
+// Pushes `value` if `seen` is true. The builder must have spare capacity.
 fn push_seen(values: &mut BitmapBuilder, seen: bool, value: bool)
     requires { 0 < values.old.room }
     ensures bits { values.new.bits ≡ values.old.bits ++ cond seen (value ∷ []) [] }
@@ -107,7 +107,8 @@ fn push_seen(values: &mut BitmapBuilder, seen: bool, value: bool)
     }
 }
 
-// Returns the truth values that were seen, and false if a null was. The error is `Memory`.
+// Returns the values of the array of `finalize_unique`: the truth values that were seen, and
+// `false` as the value under a last null, if a null was seen. The error is `Memory`.
 fn seen_values(alloc: Global, state: &BooleanUniqueKernelState) -> Result<Bitmap, ComputeError>
     ensures { MatchResult result (λ bits. bits ≡ seen_bits state.now) IsMemory }
 {
@@ -118,8 +119,8 @@ fn seen_values(alloc: Global, state: &BooleanUniqueKernelState) -> Result<Bitmap
     Ok(values.freeze())
 }
 
-// Returns a validity that masks the null after `present` truth values, if one was seen. The error
-// is `Memory`.
+// Returns the validity of `present` truth values and a last null, or `None` if no null was seen.
+// The error is `Memory`.
 fn seen_validity(
     alloc: Global,
     present: usize,
@@ -164,7 +165,8 @@ impl RangedUniqueKernel for BooleanUniqueKernelState {
     }
 
     fn accepts(&self, _array: &BooleanArray) -> bool {
-        // Has no effect at run time. The proof learns from it what the range is, here and below.
+        // Has no effect at run time, here and in `same_range`. Tells the proof the range of the
+        // state.
         let _ = &self.seen_null;
         true
     }
@@ -207,7 +209,7 @@ impl RangedUniqueKernel for BooleanUniqueKernelState {
     }
 }
 
-// Returns the state of one array.
+// Returns a new state to which only this array was appended.
 fn state_of(array: &BooleanArray) -> BooleanUniqueKernelState
     ensures { result ≡ appended (truth_rows array.now) (new_state truth_numbers) }
 {

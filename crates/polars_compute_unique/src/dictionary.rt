@@ -1,4 +1,4 @@
-//! States of the keys of dictionaries.
+//! Distinct keys of dictionary arrays.
 
 ghost use Rattle.std.specs.Borrow.{sem};
 ghost use Rattle.std.specs.Prelude.{◌≡◌, ◌↔◌, ◌+◌, ◌<◌, ◌≤◌, ◌^◌, pos, IfOk, IsOk, IsTrue};
@@ -26,12 +26,13 @@ use polars_compute_slots::reading::{NullValues, ReadCounts};
 use std::alloc::Global;
 use std::marker::Model;
 
-// Number of entries that keys of type `u32` can name.
+// The greatest number of entries that keys of type `u32` can refer to.
 const MOST_ENTRIES: usize = 1 << 32;
 
-/// A state of the keys that name the entries of a dictionary. It collects keys only: two equal
-/// entries count twice. A key that names a null entry is collected as any other, and counts as null
-/// in results.
+/// A state that collects the distinct keys of dictionary arrays. It has the entries of one
+/// dictionary, which its results use. Entries aren't compared: two keys are distinct even if their
+/// entries are equal. A key to a null entry is collected like any other key, and counts as null in
+/// results.
 #[derive(Drop)]
 pub struct DictionaryRangedUniqueState {
     keys: PrimitiveRangedUniqueState<u32>,
@@ -52,15 +53,16 @@ impl Model for DictionaryRangedUniqueState {
     ghost invariant = { λ s. IsGood s.entries };
 }
 
-/// Returns whether keys of type `u32` can name all entries: there are at most 2^32.
+/// Returns whether keys of type `u32` can refer to all entries of a dictionary: whether there are
+/// at most 2^32 entries.
 pub fn keys_fit(values: &AnyArray) -> bool
     ensures { IsTrue result ↔ (len_of values.now ≤ 2 ^ 32) }
 {
     values.len() <= MOST_ENTRIES
 }
 
-// Creates a state of `n` keys that has seen none of them. The error is `Memory`, and is possible
-// only for more than 127 keys.
+// Creates a state of the keys from 0 to `n - 1` that has seen none of them. The error is `Memory`,
+// and is possible only if `n` is greater than 127.
 fn new_keys(alloc: Global, n: usize) -> Result<PrimitiveRangedUniqueState<u32>, ComputeError>
     requires { n ≤ 2 ^ 32 }
     ensures state { MatchResult result
@@ -76,8 +78,9 @@ fn new_keys(alloc: Global, n: usize) -> Result<PrimitiveRangedUniqueState<u32>, 
 impl DictionaryRangedUniqueState {
     ghost use Rattle.polars_compute_unique.specs.KeyLends.{lends_keys};
 
-    /// Creates a state that has seen no key of the entries. The error is `Memory`, and is possible
-    /// only for more than 127 entries.
+    /// Creates a state of the keys of a dictionary that has seen none of them. `values` has the
+    /// entries of the dictionary. The error is `Memory`, and is possible only for more than 127
+    /// entries.
     pub fn new(alloc: Global, values: AnyArray) -> Result<DictionaryRangedUniqueState, ComputeError>
         requires good { IsGood values }
         requires fit { len_of values ≤ 2 ^ 32 }
@@ -99,8 +102,8 @@ impl DictionaryRangedUniqueState {
         }
     }
 
-    /// Borrows the state of the keys. Whatever is written through it becomes the range, the set and
-    /// the flag of this state.
+    /// Returns a mutable reference to the state of the keys. All that is written through it changes
+    /// this state, even the range of keys.
     pub fn key_state(&mut self) -> &mut PrimitiveRangedUniqueState<u32>
         ensures* written { sem 𝓛 (lends_keys self.entry result) }
         ensures keys { result.now ≡ self.old.keys }
@@ -108,7 +111,7 @@ impl DictionaryRangedUniqueState {
         &mut self.keys
     }
 
-    // Returns the counts of what was seen, with keys to null entries as null.
+    // Counts the keys of the range and those that were seen. Keys to null entries count as null.
     fn read_counts(&self) -> ReadCounts
         ensures counted { IsCounted (read_by (names_null self.now.entries) self.now.keys) result }
         ensures few { result.seen + 1 < 2 ^ 64 }
@@ -117,7 +120,7 @@ impl DictionaryRangedUniqueState {
     }
 }
 
-// Puts a value in a box. The error is `Memory`.
+// Moves a value into a new box. The error is `Memory`.
 fn boxed<T: Drop>(alloc: Global, value: T) -> Result<Box<T>, ComputeError>
     ensures { MatchResult result (λ boxed. boxed.value ≡ value) IsMemory }
 {
@@ -125,8 +128,7 @@ fn boxed<T: Drop>(alloc: Global, value: T) -> Result<Box<T>, ComputeError>
     Ok(boxed)
 }
 
-// Returns the dictionary array with these keys and entries, which is good. Each key must name an
-// entry.
+// Creates a dictionary array of the keys and entries. Each key must refer to an entry.
 fn array_of(keys: PrimitiveArray<u32>, entries: Box<AnyArray>) -> DictionaryArray
     requires good { IsGood entries.value }
     requires named { AreKeys (len_of entries.value) (DictKeys.UInt32 keys) }
@@ -140,7 +142,8 @@ fn array_of(keys: PrimitiveArray<u32>, entries: Box<AnyArray>) -> DictionaryArra
     array
 }
 
-// Returns the dictionary array with these keys and entries. The error is `Memory`.
+// Creates a dictionary array of the keys and entries. Each key must refer to an entry. The error is
+// `Memory`.
 fn keyed_array(
     alloc: Global,
     keys: PrimitiveArray<u32>,
@@ -162,7 +165,8 @@ fn keyed_array(
     }
 }
 
-// Checks that each key seen names one of `len` entries. The error has the least one that does not.
+// Checks that each key seen refers to one of `len` entries. Otherwise the error is `KeyOutOfRange`
+// with `len` and the least key that doesn't.
 fn name_entries(keys: &PrimitiveRangedUniqueState<u32>, len: usize) -> Result<(), ComputeError>
     ensures { MatchResult result (λ _. NamesEntries len keys.now) (IsMissingKey len keys.now) }
 {
@@ -172,7 +176,7 @@ fn name_entries(keys: &PrimitiveRangedUniqueState<u32>, len: usize) -> Result<()
     }
 }
 
-// The keys that name null entries.
+// The keys that mean null: those that refer to null entries.
 #[derive(Drop)]
 struct EntryNulls<'a> {
     entries: &'a AnyArray,
@@ -209,8 +213,9 @@ impl NullValues for EntryNulls<'_> {
     }
 }
 
-// Lists the keys seen, ascending, and a null last, if one was seen. The error is that of
-// `finalize_unique`.
+// Returns an array of the keys seen, ascending, without those that refer to null entries. A null is
+// the last row if a null was seen, or a key to a null entry. The error is `KeyOutOfRange` if a key
+// seen has no entry, and otherwise `Memory`.
 fn named_keys(
     alloc: Global,
     keys: PrimitiveRangedUniqueState<u32>,

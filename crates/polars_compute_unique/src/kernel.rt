@@ -1,4 +1,5 @@
-//! Traits of states that collect distinct values, and of arrays that have distinct values.
+//! Traits for distinct values: `RangedUniqueKernel` for states that collect them from many arrays,
+//! and `GenericUniqueKernel` and `SortedUniqueKernel` for single arrays.
 
 ghost use Rattle.std.specs.Prelude.{◌≡◌, ◌↔◌, ◌&&◌, ◌++◌, ℤ, Bool, List, Option, IsTrue, IfOk};
 ghost use Rattle.std.specs.Prelude.{MatchResult, All, length};
@@ -17,42 +18,44 @@ use polars_arrays_bits::error::ComputeError;
 use polars_arrays_flat::array::Array;
 use std::alloc::Global;
 
-/// A state that collects the distinct values of arrays whose values lie in a range: the set of
-/// values seen, and whether a null was.
+/// A state that collects the distinct values of arrays. It has a range of values, and records which
+/// of them were seen, and whether a null was seen.
 ///
-/// Many arrays are appended to one state, and states of one range are merged.
+/// Arrays whose values lie in the range are appended to the state. States of the same range can be
+/// merged. The values of dictionary arrays are their keys, of type `u32`; in results a key to a
+/// null entry counts as null.
 pub trait RangedUniqueKernel {
     type Array: Array;
 
-    // The range, the set of its values that were seen, and whether a null was.
+    // The range, the set of its values that were seen, and whether a null was seen.
     ghost state: { Self → State };
 
-    // The state as its dictionary reads it, if its values are keys: a key to a null entry means
-    // null.
+    // The state in which keys to null entries count as null, if the values are keys of a
+    // dictionary; otherwise the state itself.
     ghost read: { Self → State };
 
     // The dictionary of the keys, if the values are keys.
     ghost dictionary: { Self → Option AnyArray };
 
-    // The rows that an array adds to a state: its own, or the keys of a dictionary.
+    // The rows that an array adds to a state: its own rows, or the keys of a dictionary array.
     ghost fed: { Self.Array → List Row };
 
-    // Arrays of a type that states accept.
+    // True for arrays of a type that states accept.
     ghost is_taken: { Self.Array → Bool };
 
     // The dictionary of an array, if it has one.
     ghost array_dictionary: { Self.Array → Option AnyArray };
 
-    // The row of a value of the range.
+    // The row that a value of the range stands for.
     ghost value_row: { ℤ → Row };
 
-    /// Returns whether all values of the range and a null were seen. Dictionary keys that name null
-    /// entries count as null.
+    /// Returns whether all values of the range and a null were seen. In a state of dictionary keys,
+    /// a key to a null entry counts as null, and not as a value of the range.
     fn has_seen_all(&self) -> bool
         ensures { result ≡ all_seen (read self.now) };
 
-    /// Returns whether the state accepts the array: each present row is in the range, and a
-    /// dictionary has keys of type `u32`.
+    /// Returns whether the array can be appended to the state: whether each present row lies in the
+    /// range, and whether the keys of a dictionary array have type `u32`.
     fn accepts(&self, array: &Self::Array) -> bool
         ensures { result
             ≡ (is_taken array.now && are_within (range_of (state self.now)) (fed array.now)) };
@@ -61,26 +64,27 @@ pub trait RangedUniqueKernel {
     fn same_range(&self, other: &Self) -> bool
         ensures { IsTrue result ↔ (range_of (state self.now) ≡ range_of (state other.now)) };
 
-    /// Adds the present rows of an array, which the state must accept, to the set, and records
-    /// whether there is a null.
+    /// Adds the values of the present rows of an array to the values seen, and records whether the
+    /// array has a null. The state must accept the array.
     fn append(&mut self, array: &Self::Array)
         requires taken { IsTrue (is_taken array.now) }
         requires within { IsTrue (are_within (range_of (state self.old)) (fed array.now)) }
         ensures state { state self.new ≡ appended (fed array.now) (state self.old) }
         ensures dictionary { dictionary self.new ≡ dictionary self.old };
 
-    /// Adds the set of a state of the same range to the set, and records whether that state saw a
-    /// null. Each state keeps its own dictionary.
+    /// Adds the values that another state has seen to the values seen, and records whether that
+    /// state has seen a null. Both states must have the same range. Each state keeps its own
+    /// dictionary.
     fn append_state(&mut self, other: &Self)
         requires { range_of (state self.old) ≡ range_of (state other.now) }
         ensures state { state self.new ≡ merged (state self.old) (state other.now) }
         ensures dictionary { dictionary self.new ≡ dictionary self.old };
 
-    /// Returns the set, ascending, and a null last, if one was seen. The error is `KeyOutOfRange`
-    /// with the number of entries and the least key seen that has no entry in the dictionary, or
-    /// else `Memory`.
+    /// Returns an array of the values seen, ascending. A null is the last row if a null was seen.
+    /// The state of a dictionary returns a dictionary array with keys of type `u32`.
     ///
-    /// The array is of a type that states accept: a dictionary has keys of type `u32`.
+    /// If a key that was seen has no entry in the dictionary, the error is `KeyOutOfRange` with the
+    /// least such key and the number of entries. Otherwise the error is `Memory`.
     fn finalize_unique(self, alloc: Global) -> Result<Self::Array, ComputeError>
         ensures rows { MatchResult result
             (λ array. fed array ≡ finalised value_row (read self))
@@ -90,31 +94,34 @@ pub trait RangedUniqueKernel {
         ensures taken { IfOk result (λ array. IsTrue (is_taken array)) }
         ensures good { IfOk result (λ array. Self.Array.good array) };
 
-    /// Returns the number of rows of `finalize_unique`, even if that has an error.
+    /// Returns the number of distinct values seen, plus 1 if a null was seen: the length of the
+    /// array that `finalize_unique` returns. Has a result even if `finalize_unique` would fail.
     fn finalize_n_unique(&self) -> usize
         ensures { result ≡ length (finalised value_row (read self.now)) };
 
-    /// Returns the number of present rows of `finalize_unique`.
+    /// Returns the number of distinct values seen, not counting null: the number of present rows
+    /// that `finalize_unique` returns.
     fn finalize_n_unique_non_null(&self) -> usize
         ensures { result ≡ length (set_of (read self.now)) };
 }
 
-/// The distinct rows of one array: those of a state to which it alone is appended.
+/// An array whose distinct rows can be counted and listed. The results are those of a
+/// `RangedUniqueKernel` state to which only this array was appended.
 pub trait GenericUniqueKernel: Sized {
     ghost rows: { Self → List Row };
 
-    // The values that a row can have, and the row of each.
+    // The values that a present row can have (`range`), and the row of each value (`value_row`).
     ghost range: { List ℤ };
 
     ghost value_row: { ℤ → Row };
 
-    /// Returns the distinct rows, ascending, and a null last, if there is one. The error is
-    /// `Memory`.
+    /// Returns an array of the distinct rows, ascending. A null is the last row if the array has a
+    /// null. The error is `Memory`.
     fn unique(&self, alloc: Global) -> Result<Self, ComputeError>
         ensures { MatchResult result
             (λ unique. rows unique ≡ distinct value_row range (rows self.now)) IsMemory };
 
-    /// Returns the number of distinct rows, including null.
+    /// Returns the number of distinct rows. Null counts as a row.
     fn n_unique(&self) -> usize
         ensures { result ≡ length (distinct value_row range (rows self.now)) };
 
@@ -123,13 +130,13 @@ pub trait GenericUniqueKernel: Sized {
         ensures { result ≡ length (distinct_values range (rows self.now)) };
 }
 
-/// The distinct rows of arrays in which equal rows are adjacent, as in sorted ones. This trait has
-/// no implementation.
+/// An array in which equal rows are adjacent, as in a sorted array, and whose distinct rows can be
+/// counted and listed. This trait has no implementation.
 pub trait SortedUniqueKernel: Sized + Array {
-    /// Returns the distinct rows of `fst` and of all `others`, read one after another, each once
-    /// and in the order of their first places. Null counts as a row. The error is `Memory`.
-    ///
-    /// The result has the type of `fst`, which `others` must have too.
+    /// Returns an array of the distinct rows of `fst` and of all `others`, each once and in the
+    /// order of their first occurrences. Null counts as a row. Equal rows must be adjacent if the
+    /// arrays are read one after another. All arrays must have the type of `fst`, which is also the
+    /// type of the result. The error is `Memory`.
     fn unique_fold(alloc: Global, fst: &Self, others: &[&Self]) -> Result<Self, ComputeError>
         requires good { Self.good fst.now }
         requires all_good { All (λ array. Self.good array.now) others.now }
@@ -145,8 +152,8 @@ pub trait SortedUniqueKernel: Sized + Array {
         ensures good { IfOk result (λ unique. Self.good unique) }
         ensures one_type { IfOk result (λ unique. Self.same_type fst.now unique) };
 
-    /// Returns the distinct rows in an array of the same type, each once and in the order of their
-    /// first places. Null counts as a row. The error is `Memory`.
+    /// Returns an array of the same type with the distinct rows, each once and in the order of
+    /// their first occurrences. Null counts as a row. The error is `Memory`.
     fn unique(&self, alloc: Global) -> Result<Self, ComputeError>
         requires good { Self.good self.now }
         requires adjacent { AreAdjacent (rows_under (Self.mask self.now) (Self.slots self.now)) }
@@ -156,7 +163,7 @@ pub trait SortedUniqueKernel: Sized + Array {
         ensures good { IfOk result (λ unique. Self.good unique) }
         ensures one_type { IfOk result (λ unique. Self.same_type self.now unique) };
 
-    /// Returns the number of distinct rows, including null.
+    /// Returns the number of distinct rows. Null counts as a row.
     fn n_unique(&self) -> usize
         requires good { Self.good self.now }
         requires adjacent { AreAdjacent (rows_under (Self.mask self.now) (Self.slots self.now)) }

@@ -1,5 +1,6 @@
-//! Distinct values of columns in chunks: states that collect them, merge, stop reading once all
-//! were seen, and return them in order.
+//! Distinct values of columns in chunks. A state collects the distinct values of the arrays that
+//! are appended to it, and lists them in ascending order. States of one range can be merged. A
+//! state of numbers stops reading an array without nulls once all values of the range were seen.
 #![tactic(auto)]
 
 pub mod boolean;

@@ -1,4 +1,4 @@
-//! Appending of many arrays to one state, and merging of many states into one.
+//! Appends many arrays to one state, and merges many states into one.
 
 ghost use Rattle.std.specs.Prelude.{◌≡◌, ◌↔◌, ◌<◌, ℕ, IsTrue, length, map, slice_get, All};
 ghost use Rattle.polars_compute_slots.specs.State.{appended_all, are_within, range_of};
@@ -6,7 +6,7 @@ ghost use Rattle.polars_compute_unique.specs.Trees.{HaveRange, leftmost, merged_
 
 use crate::kernel::RangedUniqueKernel;
 
-/// Appends all arrays, in order. Does not allocate.
+/// Appends all arrays to the state, which must accept each of them. Does not allocate.
 pub fn append_all<S: RangedUniqueKernel>(state: &mut S, arrays: &[S::Array])
     requires taken { All (λ array. IsTrue (S.is_taken array)) arrays.now }
     requires within { All
@@ -19,7 +19,8 @@ pub fn append_all<S: RangedUniqueKernel>(state: &mut S, arrays: &[S::Array])
     }
 }
 
-/// States to merge, in an order that the caller chooses.
+/// A binary tree of states to merge. The caller chooses the order of the merges by the shape of the
+/// tree.
 #[derive(Drop)]
 pub enum MergeTree<S> {
     Leaf(S),
@@ -27,7 +28,7 @@ pub enum MergeTree<S> {
 }
 
 impl<S: RangedUniqueKernel> MergeTree<S> {
-    // Returns the leftmost state.
+    // Returns the leftmost state of the tree.
     fn leftmost(&self) -> &S
         ensures { result.now ≡ leftmost self.now }
     {
@@ -37,7 +38,7 @@ impl<S: RangedUniqueKernel> MergeTree<S> {
         }
     }
 
-    // Returns whether all states have the range of `state`.
+    // Returns whether all states of the tree have the same range as `state`.
     fn has_range_of(&self, state: &S) -> bool
         ensures { IsTrue result ↔ HaveRange S.state (range_of (S.state state.now)) self.now }
     {
@@ -47,7 +48,7 @@ impl<S: RangedUniqueKernel> MergeTree<S> {
         }
     }
 
-    /// Returns whether all states have one range.
+    /// Returns whether all states of the tree have the same range.
     pub fn one_range(&self) -> bool
         ensures { IsTrue result
             ↔ HaveRange S.state (range_of (S.state (leftmost self.now))) self.now }
@@ -56,7 +57,8 @@ impl<S: RangedUniqueKernel> MergeTree<S> {
     }
 }
 
-/// Merges all states into the leftmost, which keeps its dictionary. Does not allocate.
+/// Merges all states of the tree into the leftmost one, and returns it. All must have the same
+/// range. The result has the dictionary of the leftmost state. Does not allocate.
 pub fn merge_tree<S: RangedUniqueKernel + Drop>(tree: MergeTree<S>) -> S
     requires { HaveRange S.state (range_of (S.state (leftmost tree))) tree }
     ensures state { S.state result ≡ merged_tree S.state tree }

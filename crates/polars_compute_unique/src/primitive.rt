@@ -1,4 +1,4 @@
-//! States of numbers in a range.
+//! Distinct values of arrays of numbers.
 
 ghost use Rattle.std.specs.Prelude.{◌≡◌, ◌↔◌, ◌+◌, ◌<◌, ◌≤◌, ◌^◌, ◌||◌, ◌+ℤ◌, ◌-ℤ◌, ◌<ℤ◌, ◌≤ℤ◌, []};
 ghost use Rattle.std.specs.Prelude.{pos, true, false, IsOk, IsTrue, nat_le, MatchOption};
@@ -28,15 +28,16 @@ use polars_compute_slots::span::{Span, span_fits};
 use std::alloc::Global;
 use std::marker::Model;
 
-// The slots of a state: up to 128 in one word, and more in a bitmap.
+// The slots of a state: a flag for each number of the range, and a last one for null. Up to 128 are
+// stored in one word (`Few`), and more in a bitmap (`Many`).
 #[derive(Drop)]
 pub(crate) enum Seen {
     Few(WordSlots),
     Many(MutableBitmap),
 }
 
-// Creates `len` slots, none of them set. The error is `Memory`, which is possible only for more
-// than 128 slots.
+// Creates `len` slots, none of them set. The error is `Memory`, and is possible only for more than
+// 128 slots.
 fn none_set(alloc: Global, len: usize) -> Result<Seen, ComputeError>
     ensures slots { MatchResult result (λ seen. seen_slots seen ≡ replicate len false) IsMemory }
     ensures word { MatchResult result (λ seen. in_word seen ≡ nat_le len 128) IsMemory }
@@ -49,7 +50,8 @@ fn none_set(alloc: Global, len: usize) -> Result<Seen, ComputeError>
     Ok(Seen::Many(slots))
 }
 
-// Sets the slots that are set in `other`, which must have equally many, stored in the same form.
+// Sets the slots that are set in `other`. Both must have the same number of slots and be of the
+// same variant.
 fn join_seen(seen: &mut Seen, other: &Seen)
     requires size { length (seen_slots other.now) ≡ length (seen_slots seen.old) }
     requires word { in_word other.now ≡ in_word seen.old }
@@ -63,7 +65,8 @@ fn join_seen(seen: &mut Seen, other: &Seen)
     }
 }
 
-/// A state of the numbers of a range.
+/// A state that collects the distinct numbers of arrays, and has a slot for each number of its
+/// range.
 #[derive(Drop)]
 pub struct PrimitiveRangedUniqueState<T: UniqueNumber> {
     span: Span<T>,
@@ -83,8 +86,8 @@ impl<T: UniqueNumber> Model for PrimitiveRangedUniqueState<T> {
     ghost invariant = { λ s. IsKept T.low T.high (T.value s.span.least) s.span.count s.seen };
 }
 
-/// Returns whether there can be a state of the numbers from `min_value` to `max_value`: they are in
-/// order, and `max_value - min_value + 2` is at most `usize::MAX`.
+/// Returns whether a state of the numbers from `min_value` to `max_value` can be created: whether
+/// `min_value` is at most `max_value`, and `max_value - min_value + 2` is at most `usize::MAX`.
 pub fn range_fits<T: UniqueNumber>(min_value: T, max_value: T) -> bool
     ensures { IsTrue result ↔ RangeFits (T.value min_value) (T.value max_value) }
 {
@@ -92,8 +95,8 @@ pub fn range_fits<T: UniqueNumber>(min_value: T, max_value: T) -> bool
 }
 
 impl<T: UniqueNumber> PrimitiveRangedUniqueState<T> {
-    /// Creates a state that has seen none of the numbers from `min_value` to `max_value`. The error
-    /// is `Memory`, and is possible only for more than 127 numbers.
+    /// Creates a state with the range from `min_value` to `max_value` that has seen no row. The
+    /// error is `Memory`, and is possible only for a range of more than 127 numbers.
     pub fn new(
         alloc: Global,
         min_value: T,
@@ -110,7 +113,7 @@ impl<T: UniqueNumber> PrimitiveRangedUniqueState<T> {
         Ok(PrimitiveRangedUniqueState { span, seen })
     }
 
-    /// Creates a state with an empty range, which can see nothing except nulls.
+    /// Creates a state with an empty range. It accepts only arrays whose rows are all null.
     pub fn new_empty() -> PrimitiveRangedUniqueState<T>
         ensures { result ≡ new_state [] }
     {
@@ -120,8 +123,8 @@ impl<T: UniqueNumber> PrimitiveRangedUniqueState<T> {
         }
     }
 
-    /// Appends an array and counts the rows it reads: all of them if the array has a null,
-    /// otherwise whole blocks of 512 until every number of the range was seen.
+    /// Appends an array, and adds the number of rows read to `steps`. If a row is null, all rows
+    /// are read. Otherwise blocks of 512 rows are read until all numbers of the range were seen.
     pub fn append_counted(&mut self, array: &PrimitiveArray<T>, steps: &mut Steps)
         requires { IsTrue (are_within (range_of self.old) (number_rows T.value array.now)) }
         ensures state { self.new ≡ appended (number_rows T.value array.now) self.old }
@@ -138,7 +141,8 @@ impl<T: UniqueNumber> PrimitiveRangedUniqueState<T> {
         }
     }
 
-    // What the state has where some values stand for null.
+    // Counts the values of the range that don't mean null, and those of them that were seen.
+    // `nulls` says which values mean null.
     pub(crate) fn read_counts<N: NullValues>(&self, nulls: &N) -> ReadCounts
         requires { N.good nulls.now }
         ensures counted { IsCounted (read_by (N.is_null nulls.now) self.now) result }
@@ -150,8 +154,9 @@ impl<T: UniqueNumber> PrimitiveRangedUniqueState<T> {
         }
     }
 
-    // Returns an array of the numbers seen, ascending, without those that mean null by `nulls`. A
-    // null comes last if a null was seen, or a number that means null. The error is `Memory`.
+    // Returns an array of the numbers seen that don't mean null, ascending. A null is the last row
+    // if a null was seen, or a number that means null. `nulls` says which numbers mean null. The
+    // error is `Memory`.
     pub(crate) fn list_read<N: NullValues>(
         &self,
         alloc: Global,
@@ -168,7 +173,7 @@ impl<T: UniqueNumber> PrimitiveRangedUniqueState<T> {
         }
     }
 
-    // Returns the least number seen that is at least a bound.
+    // Returns the least number seen that is at least `bound`, or `None` if there is none.
     pub(crate) fn least_from(&self, bound: i128) -> Option<T>
         ensures { MatchOption result (All (λ v. v <ℤ bound) (set_of self.now))
             (λ x. IsLeastFrom bound (set_of self.now) (T.value x)) }
