@@ -20,8 +20,9 @@ use std::alloc::Global;
 /// validity: the bit of a null row is arbitrary. In methods with `missing`, a null is never equal
 /// to the byte string. The error is `Memory`.
 ///
-/// Call these methods by path, as in `BytesEqKernel::tot_eq_kernel_broadcast(&array, Global,
-/// b"x")`, since `TotalEqKernel` has methods with the same names.
+/// Call these methods by path, as in
+/// `BytesEqKernel::tot_eq_kernel_broadcast(&array, Global, b"x")`, since `TotalEqKernel` has
+/// methods with the same names.
 pub trait BytesEqKernel: ByteRows + Sized {
     /// Returns for each row whether it is equal to the byte string. The bit of a null row is
     /// arbitrary.

@@ -19,7 +19,9 @@ use std::alloc::Global;
 ///
 /// Each comparison returns a bitmap with a bit for each row. Methods without `missing` in their
 /// name don't combine the result with the masks: if a row is null on either side, its bit is
-/// arbitrary. In methods with `missing`, null is equal to null alone. A scalar is never null.
+/// arbitrary. In methods with `missing`, null is equal to null alone. A scalar is never null. For
+/// example, if the rows are 1, null, 2 and 1, null, null, `tot_eq_missing_kernel` returns the bits
+/// 1, 1, 0.
 ///
 /// The comparisons allocate, and fail with `Memory` if memory runs out. The broadcasts of null,
 /// struct and dictionary arrays always fail with `Unsupported`.

@@ -183,8 +183,9 @@ impl<'a, L: ByteRows, R: ByteRows, E: ByteComparison> TruthValues for StringPair
     }
 }
 
-/// Returns a bit for each `i` below `n`: 1 if the comparison holds for the stored byte string `a +
-/// i` of the left array and the stored byte string `b + i` of the right one. The error is `Memory`.
+/// Returns a bit for each `i` below `n`: 1 if the comparison holds for the stored byte string
+/// `a + i` of the left array and the stored byte string `b + i` of the right one. The error is
+/// `Memory`.
 #[inline]
 pub fn compare_byte_windows<L: ByteRows, R: ByteRows, E: ByteComparison>(
     alloc: Global,
@@ -201,7 +202,7 @@ pub fn compare_byte_windows<L: ByteRows, R: ByteRows, E: ByteComparison>(
         (window a n (byte_slots (L.strings left.now)))
         (window b n (byte_slots (R.strings right.now)))) IsMemory }
 {
-    // Have no effect at run time. The proof learns from them that places fit in 64 bits.
+    // Neither call has an effect at run time. They tell the proof that indices fit in 64 bits.
     let _left_count = left.count();
     let _right_count = right.count();
     let pairs = StringPairs {

@@ -18,9 +18,9 @@ use std::alloc::Global;
 // separately, with the size as a constant.
 const UUID_SIZE: usize = 16;
 
-/// Returns a bit for each `i` below `n`: 1 if the comparison holds for the stored byte string `a +
-/// i` of the left array and the stored byte string `b + i` of the right one. The strings of the two
-/// arrays may have different sizes. The error is `Memory`.
+/// Returns a bit for each `i` below `n`: 1 if the comparison holds for the stored byte string
+/// `a + i` of the left array and the stored byte string `b + i` of the right one. The strings of
+/// the two arrays may have different sizes. The error is `Memory`.
 pub fn compare_sized_windows<E: ByteComparison>(
     alloc: Global,
     comparison: &E,

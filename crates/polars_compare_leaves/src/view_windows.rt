@@ -25,7 +25,7 @@ use polars_arrays_views::view::View;
 use std::alloc::Global;
 
 // The results of a comparison of `n` pairs of rows: row `a + i` of the left array and row `b + i`
-// of the right one. The slices of views are stored besides the arrays, so that a loop doesn't fetch
+// of the right one. The slices of views are stored next to the arrays, so that a loop doesn't fetch
 // them for each row.
 #[derive(Drop)]
 struct ViewPairs<'a, E> {
@@ -122,7 +122,7 @@ pub fn compare_view_windows<E: ViewComparison>(
         ≡ steps.old + followed E.follows (view_strings left.now) (view_strings right.now) a b n) }
     ensures kept { steps.old ≤ steps.new }
 {
-    // Have no effect at run time. The proof learns from them that places fit in 64 bits.
+    // Neither call has an effect at run time. They tell the proof that indices fit in 64 bits.
     let _left_len = left.len();
     let _right_len = right.len();
     let pairs = ViewPairs {

@@ -51,8 +51,9 @@ fn are_all_rows(
     Ok(BitMask::from_bitmap(&same).all_set(0, count))
 }
 
-/// Returns a bit for each list: 1 if its items are exactly the rows of `rows`, in order. Null lists
-/// are compared by their stored items. The error is `Memory`.
+/// Returns a bit for each list: 1 if its items are exactly the rows of `rows`, in order. For
+/// example, with the rows 1 and 2, the list `[1, 2]` gives 1, and `[1]` and `[2, 1]` give 0. Null
+/// lists are compared by their stored items. The error is `Memory`.
 pub fn list_broadcast(
     alloc: Global,
     lists: &ListArray,

@@ -44,8 +44,8 @@ pub(crate) fn are_leaves(left: &AnyArray, right: &AnyArray) -> bool
     has_leaves(left) && !left.may_have_nulls() && !right.may_have_nulls()
 }
 
-/// Returns whether windows of `n` rows have at most 64 leaves without nulls. `leaves` says that the
-/// rows of both arrays are leaves without nulls.
+/// Returns whether two windows of `n` rows consist of at most 64 leaves without nulls each.
+/// `leaves` says that the rows of both arrays are leaves without nulls.
 #[inline(always)]
 pub(crate) fn are_few_leaves(_left: &AnyArray, _right: &AnyArray, leaves: bool, n: usize) -> bool
     requires leaves { IsTrue leaves → AreLeavesWithoutNulls _left.now _right.now }

@@ -25,8 +25,8 @@ use std::alloc::Global;
 /// leaves it compares. Two leaves agree if the comparison says so. Comparisons of nested arrays
 /// compare leaves only by this trait.
 ///
-/// The counter `Steps` implements it: two leaves agree if they are equal. For this reason a
-/// parameter of type `LeafKernel` is named `steps`.
+/// The counter `Steps` implements it: two leaves agree if they are equal. For this reason,
+/// parameters that implement this trait are named `steps`.
 pub trait LeafKernel {
     // True for two leaf rows that agree.
     ghost agree: { Row → Row → Bool };

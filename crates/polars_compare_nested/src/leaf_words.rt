@@ -61,8 +61,9 @@ pub(crate) fn leaf_word(
     )
 }
 
-// Returns the word of `leaf_word` for leaves of any kind. Allocates a bitmap of the results, and
-// reads the word from it. The error is `Memory`.
+// Returns a word whose bit `i` is 1 if leaf `a + i` of the left array is equal to leaf `b + i` of
+// the right one, for leaves of any kind. Reads the word from a bitmap of the results. If a row is
+// masked on either side, the bit is arbitrary. The error is `Memory`.
 fn word_of_windows(
     alloc: Global,
     left: &AnyArray,
@@ -82,7 +83,8 @@ fn word_of_windows(
     Ok(BitMask::from_bitmap(&bits).few_bits(0, n))
 }
 
-// Returns the word of `leaf_word` for numbers. Does not allocate.
+// Returns a word whose bit `i` is 1 if number `a + i` of the left array is equal to number `b + i`
+// of the right one, for each `i` below `n`, which is at most 64. Does not allocate.
 #[inline(always)]
 fn number_word<T: NativeType>(
     left: &PrimitiveArray<T>,

@@ -22,7 +22,7 @@ use polars_arrays_words::words::WORD_BITS;
 /// A run of adjacent lists that match, as the two windows of all their items.
 #[derive(Drop)]
 pub(crate) struct ItemRun {
-    /// First item of the left lists.
+    /// Index of the first item of the left lists.
     pub(crate) left_start: usize,
     /// Index of the first item of the right lists.
     pub(crate) right_start: usize,
@@ -32,7 +32,7 @@ pub(crate) struct ItemRun {
     pub(crate) len: usize,
 }
 
-/// The result of `next_rows`: the next lists of two windows.
+/// The result of `next_rows`: a run of lists that match, or two lists that don't match.
 #[derive(Drop)]
 pub(crate) enum NextRows {
     /// The next two lists don't match: they have different numbers of items, or they have items and
@@ -75,8 +75,8 @@ macro_rules! on_lists {
 }
 
 // Returns the number of leading pairs of lists that match, at most `n`: list `a + i` of the left
-// array and list `b + i` of the right one. Not inlined, so that the code of `matching_run`, which
-// calls it only for long runs, stays small.
+// array and list `b + i` of the right one. Not inlined, so that the code of `matching_run` stays
+// small: it calls this function only if all known pairs match.
 #[inline(never)]
 fn run_length(left: &ListArray, a: usize, right: &ListArray, b: usize, n: usize) -> usize
     requires left_good { IsGood (List left.now) }

@@ -1,5 +1,5 @@
 //! Loops over lists between offsets of 32 or 64 bits: whether lists match, and whether the bits of
-//! all their items are set. The offsets are passed as slices, besides their array.
+//! all their items are set. The offsets are passed as slices, in addition to their array.
 
 ghost use Rattle.std.specs.Option.{option_copied};
 ghost use Rattle.std.specs.Prelude.{◌≡◌, ℕ, ◌+◌, ◌-◌, ◌^◌, ◌<◌, ◌≤◌, ◌↔◌, ◌&&◌, IfSome, IsTrue};

@@ -3,8 +3,8 @@
 //!
 //! A comparison of nested arrays compares windows of the arrays inside them, and copies no array.
 //! Structs need one comparison for each column. Lists of fixed size need one comparison of all
-//! their items. Lists between offsets need one comparison for each run of adjacent lists with the
-//! same numbers of items (`runs.rt`). Dictionaries need a comparison of two entries for each row.
+//! their items. Lists between offsets need one comparison for each run of adjacent lists that match
+//! (`runs.rt`). Dictionaries need a comparison of two entries for each row.
 //!
 //! Leaves are compared by the `LeafKernel` that the caller passes as `steps`. The counter `Steps`
 //! is a `LeafKernel`: it compares leaves by equality (`eq_leaves`), and counts them.
@@ -358,8 +358,9 @@ fn raw_row<K: LeafKernel>(
     }
 }
 
-// Returns the result of `raw_row` for nested arrays and for null arrays. Entries of dictionaries
-// are compared without a bitmap for their row. The error is `Memory`.
+// Returns whether row `a` of the left array and row `b` of the right one are the same, for nested
+// arrays and for null arrays. If a row is masked on either side, the result is arbitrary. No bitmap
+// is allocated for the rows of dictionary arrays. The error is `Memory`.
 #[cycle(equal)]
 fn nested_row<K: LeafKernel>(
     alloc: Global,

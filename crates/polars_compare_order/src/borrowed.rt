@@ -17,8 +17,9 @@ use std::alloc::Global;
 /// a bitmap with a bit for each row. The validity is not read: the bit of a null row is arbitrary.
 /// The error is `Memory`.
 ///
-/// Call these methods by path, as in `BytesOrdKernel::tot_lt_kernel_broadcast(&array, Global,
-/// b"x")`, since `TotalOrdKernel` has methods with the same names.
+/// Call these methods by path, as in
+/// `BytesOrdKernel::tot_lt_kernel_broadcast(&array, Global, b"x")`, since `TotalOrdKernel` has
+/// methods with the same names.
 pub trait BytesOrdKernel: ByteRows + Sized {
     /// Returns for each row whether it is less than the byte string.
     fn tot_lt_kernel_broadcast(&self, alloc: Global, other: &[u8]) -> Result<Bitmap, ComputeError>

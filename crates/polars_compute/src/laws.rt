@@ -43,7 +43,7 @@ pub fn law_rows_alone<T: PlNumArithmetic>()
 {}
 
 /// States that the floor quotient of `a` and `b`, times `b`, plus the modulus of `a` and `b` is
-/// `a`. The divisor `b` isn't 0, and all operations wrap.
+/// `a`. The divisor `b` isn't 0, and all operations wrap. For example, -7 is -4 times 2 plus 1.
 pub fn law_divides_back<T: PlNumArithmetic>()
     ensures { DividesBack T.low T.high (bit_len T.width) }
 {}

@@ -33,19 +33,19 @@ pub struct Ones;
 #[derive(Drop)]
 pub struct Zeros;
 
-/// The count of ones from the highest bit down, up to the first 0.
+/// The count of ones from the highest bit down, up to the first 0: 2 for the `u8` 0b1101_0000.
 #[derive(Drop)]
 pub struct LeadingOnes;
 
-/// The count of zeros from the highest bit down, up to the first 1.
+/// The count of zeros from the highest bit down, up to the first 1: 3 for the `u8` 0b0001_0110.
 #[derive(Drop)]
 pub struct LeadingZeros;
 
-/// The count of ones from the lowest bit up, up to the first 0.
+/// The count of ones from the lowest bit up, up to the first 0: 2 for the `u8` 0b0000_1011.
 #[derive(Drop)]
 pub struct TrailingOnes;
 
-/// The count of zeros from the lowest bit up, up to the first 1.
+/// The count of zeros from the lowest bit up, up to the first 1: 3 for the `u8` 0b0110_1000.
 #[derive(Drop)]
 pub struct TrailingZeros;
 

@@ -27,6 +27,7 @@ use std::alloc::Global;
 /// stay null; its error is `Memory`. A reduction combines the present rows bit by bit, and returns
 /// `None` if no row is present.
 pub trait BitwiseKernel {
+    /// The type of a present row.
     type Scalar;
 
     // The rows (`rows`), and the number of bits of each present row (`width`).

@@ -14,6 +14,7 @@ pub trait Operator<T: NativeType> {
     // The number that a fold starts with.
     ghost neutral: { Self → ℤ };
 
+    // The operator is associative and commutative, and the start joined with itself is the start.
     ghost folds_law: { (operator : Self) → Folds joined (neutral operator) };
 
     /// Returns the number that a fold starts with, such as 0 for a sum. A fold may join this number

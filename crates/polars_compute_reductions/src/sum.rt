@@ -33,7 +33,8 @@ impl<T: WrappingNumber + num_traits::WrappingAdd> WrappingAdd for T {
 
 /// A number type whose slices have wrapping sums.
 pub trait WrappingSum: NativeType {
-    /// Returns the sum of the numbers, wrapped to the type, or 0 if there are none.
+    /// Returns the sum of the numbers, wrapped to the type, or 0 if there are none. For example,
+    /// the `u8` numbers 200 and 100 give 44.
     fn wrapping_sum(vals: &[Self]) -> Self
         ensures { Self.value result
             ≡ wrapped Self.low (bit_len Self.width) (total (number_slots Self.value vals.now)) };

@@ -13,7 +13,8 @@ use polars_arrays_numbers::comparison::{Comparison, Equal};
 use polars_arrays_numbers::native_type::least_value;
 
 /// The range of `count` numbers from `least` on. The slot of a number is `number - least`, and the
-/// slot of null is `count`.
+/// slot of null is `count`. For example, the range of 10, 11 and 12 has the slots 0, 1 and 2 for
+/// these numbers, and slot 3 for null.
 #[derive(Clone, Copy, Drop)]
 pub struct Span<T: UniqueNumber> {
     pub least: T,
@@ -63,7 +64,8 @@ impl<T: UniqueNumber> Span<T> {
         ensures numbers { AreNumbers T.low T.high (T.value result.least) 0 }
     {
         let least = least_value::<T>();
-        // Has no effect at run time. The proof learns from it that the number is one of the type.
+        // Has no effect at run time. Tells the proof that the number lies within the bounds of its
+        // type.
         let _whole = least.whole();
         Span { least, count: 0 }
     }
@@ -74,7 +76,7 @@ impl<T: UniqueNumber> Span<T> {
         requires { HasSlot (T.value self.now.least) self.now.count (Int (T.value number)) }
         ensures { result ≡ slot_of (T.value self.now.least) self.now.count (Int (T.value number)) }
     {
-        // Has no effect at run time. The proof learns from it that the count is a `usize`.
+        // Has no effect at run time. Tells the proof that the count is a `usize`.
         let _count = self.count;
         distance(self.least, number)
     }

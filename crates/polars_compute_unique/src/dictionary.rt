@@ -183,6 +183,7 @@ struct EntryNulls<'a> {
 }
 
 impl<'a> EntryNulls<'a> {
+    // Creates the value for the entries of a dictionary.
     fn of(entries: &'a AnyArray) -> EntryNulls<'a>
         ensures { result.entries.now ≡ entries.now }
     {

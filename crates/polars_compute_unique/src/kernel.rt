@@ -25,6 +25,7 @@ use std::alloc::Global;
 /// merged. The values of dictionary arrays are their keys, of type `u32`; in results a key to a
 /// null entry counts as null.
 pub trait RangedUniqueKernel {
+    /// The type of the arrays that are appended to the state.
     type Array: Array;
 
     // The range, the set of its values that were seen, and whether a null was seen.
@@ -81,7 +82,8 @@ pub trait RangedUniqueKernel {
         ensures dictionary { dictionary self.new ≡ dictionary self.old };
 
     /// Returns an array of the values seen, ascending. A null is the last row if a null was seen.
-    /// The state of a dictionary returns a dictionary array with keys of type `u32`.
+    /// For example, after the rows 3, null, 1, 3 were appended, returns 1, 3, null. The state of a
+    /// dictionary returns a dictionary array with keys of type `u32`.
     ///
     /// If a key that was seen has no entry in the dictionary, the error is `KeyOutOfRange` with the
     /// least such key and the number of entries. Otherwise the error is `Memory`.
@@ -108,6 +110,7 @@ pub trait RangedUniqueKernel {
 /// An array whose distinct rows can be counted and listed. The results are those of a
 /// `RangedUniqueKernel` state to which only this array was appended.
 pub trait GenericUniqueKernel: Sized {
+    // The rows of the array.
     ghost rows: { Self → List Row };
 
     // The values that a present row can have (`range`), and the row of each value (`value_row`).
@@ -153,7 +156,8 @@ pub trait SortedUniqueKernel: Sized + Array {
         ensures one_type { IfOk result (λ unique. Self.same_type fst.now unique) };
 
     /// Returns an array of the same type with the distinct rows, each once and in the order of
-    /// their first occurrences. Null counts as a row. The error is `Memory`.
+    /// their first occurrences. Null counts as a row. For example, 2, 2, null, 1 gives 2, null, 1.
+    /// The error is `Memory`.
     fn unique(&self, alloc: Global) -> Result<Self, ComputeError>
         requires good { Self.good self.now }
         requires adjacent { AreAdjacent (rows_under (Self.mask self.now) (Self.slots self.now)) }

@@ -19,8 +19,7 @@ pub fn append_all<S: RangedUniqueKernel>(state: &mut S, arrays: &[S::Array])
     }
 }
 
-/// A binary tree of states to merge. The caller chooses the order of the merges by the shape of the
-/// tree.
+/// A binary tree of states to merge. Its shape says in which order they are merged.
 #[derive(Drop)]
 pub enum MergeTree<S> {
     Leaf(S),

@@ -28,7 +28,7 @@ pub trait PlNumArithmetic: DivisorNumber
         ensures { Self.value result
             ≡ wrapped Self.low (bit_len Self.width) (or_zero (magnitude_of (Self.value self))) };
 
-    /// Returns the quotient rounded toward 0, or 0 if `rhs` is 0.
+    /// Returns the quotient rounded toward 0, or 0 if `rhs` is 0. For example, -7 by 2 gives -3.
     fn wrapping_trunc_div(self, rhs: Self) -> Self
         ensures { Self.value result
             ≡ wrapped Self.low (bit_len Self.width)
@@ -73,7 +73,7 @@ pub trait PlNumArithmetic: DivisorNumber
         WrappingMul::wrapping_mul(&self, &rhs)
     }
 
-    /// Returns the quotient rounded down, or 0 if `rhs` is 0.
+    /// Returns the quotient rounded down, or 0 if `rhs` is 0. For example, -7 by 2 gives -4.
     #[inline(always)]
     final fn wrapping_floor_div(self, rhs: Self) -> Self
         ensures { Self.value result
@@ -92,7 +92,7 @@ pub trait PlNumArithmetic: DivisorNumber
     }
 
     /// Returns the modulus: the remainder of the division that rounds down. It is 0 or has the sign
-    /// of `rhs`. Returns 0 if `rhs` is 0.
+    /// of `rhs`. Returns 0 if `rhs` is 0. For example, -7 and 2 give 1.
     #[inline(always)]
     final fn wrapping_mod(self, rhs: Self) -> Self
         ensures { Self.value result
