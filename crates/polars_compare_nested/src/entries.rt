@@ -79,7 +79,7 @@ impl<'a> KeyBlock<'a> {
         ensures count { result.count ≡ n }
     {
         let keys = array.keys();
-        // For the proof: the number of keys fits in 64 bits, so the places don't overflow.
+        // For the proof: the number of keys fits in 64 bits, so the indices don't overflow.
         let _rows = keys.len();
         KeyBlock {
             array,

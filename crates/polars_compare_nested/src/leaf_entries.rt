@@ -40,7 +40,7 @@ pub(crate) fn eq_leaf_entries<K: LeafKernel>(
     ensures { Compares (RawBits K.agree) (Dictionary left.now) a (Dictionary right.now) b n
         (K.count steps.old) (K.count steps.new) result }
 {
-    // For the proof: both lengths fit in 64 bits, so the places don't overflow.
+    // For the proof: both lengths fit in 64 bits, so the indices don't overflow.
     let (_rows, _others) = (left.keys().len(), right.keys().len());
     let mut bits = BitmapBuilder::with_capacity(alloc, n)?;
     let mut done = 0;

@@ -95,7 +95,7 @@ pub fn eq_lists<K: LeafKernel>(
     ensures { Compares (RawBits K.agree) (List left.now) a (List right.now) b n (K.count steps.old)
         (K.count steps.new) result }
 {
-    // For the proof: both lengths fit in 64 bits, so the places don't overflow.
+    // For the proof: both lengths fit in 64 bits, so the indices don't overflow.
     let (_rows, _others) = (left.offsets().len(), right.offsets().len());
     let leaves = are_leaves(left.values(), right.values());
     let mut bits = BitmapBuilder::with_capacity(alloc, n)?;
@@ -288,7 +288,7 @@ pub fn eq_dictionaries<K: LeafKernel>(
     if has_leaves(left.values()) {
         return eq_leaf_entries(alloc, left, a, right, b, n, steps);
     }
-    // For the proof: both lengths fit in 64 bits, so the places don't overflow.
+    // For the proof: both lengths fit in 64 bits, so the indices don't overflow.
     let (_rows, _others) = (left.keys().len(), right.keys().len());
     let mut bits = BitmapBuilder::with_capacity(alloc, n)?;
     for i in 0..n {
