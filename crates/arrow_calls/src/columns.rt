@@ -1,4 +1,4 @@
-//! Columns of the numbers of parts.
+//! Borrowed columns made of the parts of lent arrays.
 
 ghost use Rattle.std.specs.Prelude.{length, IfErr, IfOk};
 ghost use Rattle.arrow_calls.specs.Columns.{IsColumn, Lends};
@@ -11,8 +11,9 @@ use arrow_parts::part::Part;
 use polars_arrays_numbers::native_type::NativeType;
 use std::alloc::Global;
 
-/// Borrows the numbers of a part as a column, with a validity made of the part's bits. The error is
-/// `Parts` if there is not one number for each row, or if there are bits but too few; or `Memory`.
+/// Borrows the numbers `values` of a part as a column. The part's bits become the column's
+/// validity. Fails with `Parts` if `values` does not have one number for each row, or if the part
+/// has validity bits, but fewer than rows. Fails with `Memory` if an allocation fails.
 pub fn column<'a, T: NativeType>(
     alloc: Global,
     part: &Part<'_>,

@@ -1,4 +1,4 @@
-//! Counts of the bits of a part's numbers.
+//! Counts of the bits of each number of a part.
 
 ghost use Rattle.std.specs.Prelude.{◌≡◌, length, map, pos, IfErr, OnErr, OnOk};
 ghost use Rattle.num_traits.specs.Laws.{bit_len};
@@ -14,9 +14,10 @@ use arrow_parts::part::Part;
 use polars_compute_reductions::bit_number::BitNumber;
 use std::alloc::Global;
 
-/// Writes a count of the bits of each row of a part's numbers, under the validity of the part. The
-/// error is `Parts`, `Room` if there is not one count for each row, or `Memory`; nothing is then
-/// written.
+/// Writes a count of the bits of each number of `values` into `counts`. The validity of the counts
+/// is that of the part, and the count of a null row is arbitrary. Fails with `Parts` if `column`
+/// does, with `Room` if `counts` does not have one element for each row, and with `Memory` if an
+/// allocation fails. `counts` is then unchanged.
 pub fn count_numbers<T: BitNumber>(
     alloc: Global,
     counting: Counting,

@@ -1,4 +1,4 @@
-//! Reasons why a call has no result, and their numbers in C.
+//! Reasons why a call fails, and their status codes in C.
 
 ghost use Rattle.std.specs.Prelude.{◌≡◌};
 ghost use Rattle.arrow_calls.specs.Statuses.{fault_of, status_of};
@@ -8,18 +8,18 @@ ghost use Rattle.polars_arrays_bits.specs.Errors.{IsMemory};
 use arrow_parts::refused::Refused;
 use polars_arrays_bits::error::ComputeError;
 
-/// A reason why a call has no result.
+/// A reason why a call fails.
 #[derive(Clone, Copy, Drop, Debug)]
 pub enum Fault {
-    /// The parts make no array.
+    /// The parts do not describe an array.
     Parts,
-    /// Two arrays are not of one type and length.
+    /// The two arrays differ in type or in length, or the column's type lacks a given number.
     Types,
-    /// The caller's memory has no room for the result.
+    /// The caller's memory is too small for the result, or does not have its length.
     Room,
     /// An allocation failed.
     Memory,
-    /// The call does not serve arrays of this kind, or has no operation with this number.
+    /// The call does not support this kind of array, or the code of an operation is unknown.
     NotServed,
 }
 
@@ -47,7 +47,8 @@ impl From<ComputeError> for Fault {
     }
 }
 
-/// Returns the status of a call that has no result.
+/// Returns the status code of a failed call in C, from 1 (`DUNKELVA_BAD_ARRAY`) to 5
+/// (`DUNKELVA_NOT_SERVED`).
 pub fn status(fault: Fault) -> i32
     ensures { result ≡ status_of fault }
 {

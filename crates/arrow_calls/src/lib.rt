@@ -1,5 +1,5 @@
-//! What calls on parts have in common: faults and statuses, the operations that C names by numbers,
-//! whole numbers in the caller's memory, and columns of the numbers that a part lends.
+//! The basis of the exported calls: errors and their status codes, the codes of operations in C,
+//! numbers of 128 bits in the caller's memory, and borrowed columns of the numbers of a part.
 #![tactic(auto)]
 
 pub mod columns;

@@ -1,4 +1,4 @@
-//! Whole numbers in the caller's memory.
+//! Numbers of 128 bits that are exchanged with C.
 
 ghost use Rattle.std.specs.Prelude.{◌≡◌, ◌≤ℤ◌, option_map, IfSome, IsNone};
 ghost use Rattle.arrow_calls.specs.Numbers.{number_words, words_number};
@@ -6,19 +6,19 @@ ghost use Rattle.arrow_calls.specs.Numbers.{number_words, words_number};
 use polars_arrays_numbers::native_type::{greatest_value, least_value};
 use polars_compute_slots::number::UniqueNumber;
 
-/// A whole number in 128 bits of two's complement, or none.
+/// A number of 128 bits in two's complement, as two words, or no number.
 #[repr(C)]
 #[derive(Clone, Copy, Drop)]
 pub struct Number {
-    /// The lower 64 bits, or 0.
+    /// The lower 64 bits, or 0 if there is no number.
     pub low: u64,
-    /// The upper 64 bits, or 0.
+    /// The upper 64 bits, or 0 if there is no number.
     pub high: u64,
-    /// 1 if there is a number, or 0.
+    /// 1 if there is a number, or 0 if there is none.
     pub exists: u64,
 }
 
-/// Returns a number of a column as a whole number.
+/// Converts a number of a column to `i128`. Returns `None` for `None`.
 pub fn whole<T: UniqueNumber>(number: Option<T>) -> Option<i128>
     ensures number { result ≡ option_map T.value number }
     ensures in_type { IfSome result (λ n. (T.low ≤ℤ n) × (n ≤ℤ T.high)) }
@@ -29,7 +29,7 @@ pub fn whole<T: UniqueNumber>(number: Option<T>) -> Option<i128>
     }
 }
 
-/// Returns a whole number in the form that crosses to C.
+/// Converts a number to the form in which C receives it. `None` becomes three zeros.
 pub fn number_of(whole: Option<i128>) -> Number
     ensures { result ≡ number_words whole }
 {
@@ -50,7 +50,8 @@ pub fn number_of(whole: Option<i128>) -> Number
     }
 }
 
-/// Returns the whole number of a low and a high word.
+/// Returns the number of 128 bits in two's complement whose lower word is `low` and whose upper
+/// word is `high`.
 pub fn whole_of(low: u64, high: u64) -> i128
     ensures { result ≡ words_number low high }
 {
@@ -59,7 +60,7 @@ pub fn whole_of(low: u64, high: u64) -> i128
     (low + (high << 64)).cast_signed()
 }
 
-/// Returns a whole number as a number of a type, or `None` if the type does not have it.
+/// Converts a number to type `T`, or returns `None` if it is out of the type's range.
 pub fn narrow<T: UniqueNumber>(whole: i128) -> Option<T>
     ensures number { IfSome result (λ number. T.value number ≡ whole) }
     ensures none { IsNone result → ¬ ((T.low ≤ℤ whole) × (whole ≤ℤ T.high)) }

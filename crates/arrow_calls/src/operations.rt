@@ -1,4 +1,4 @@
-//! Operations on columns, by their numbers in C.
+//! Lookup of operations by their codes in C.
 
 ghost use Rattle.std.specs.Prelude.{◌≡◌};
 ghost use Rattle.arrow_calls.specs.Operations.{counting_number, operator_number, test_number};
@@ -7,7 +7,8 @@ use arrow_columns::comparing::Test;
 use arrow_columns::counting::Counting;
 use arrow_columns::reducing::BitOperator;
 
-/// Returns the comparison with this number, or `None` if there is none.
+/// Returns the comparison whose code in `dunkelva.h` is `number` (`DUNKELVA_EQUAL` is 0), or `None`
+/// if the code is unknown.
 pub fn test_of(number: u32) -> Option<Test>
     ensures { result ≡ test_number number }
 {
@@ -22,7 +23,8 @@ pub fn test_of(number: u32) -> Option<Test>
     }
 }
 
-/// Returns the count with this number, or `None` if there is none.
+/// Returns the count of bits whose code in `dunkelva.h` is `number` (`DUNKELVA_ONES` is 0), or
+/// `None` if the code is unknown.
 pub fn counting_of(number: u32) -> Option<Counting>
     ensures { result ≡ counting_number number }
 {
@@ -37,7 +39,8 @@ pub fn counting_of(number: u32) -> Option<Counting>
     }
 }
 
-/// Returns the operator with this number, or `None` if there is none.
+/// Returns the operator on bits whose code in `dunkelva.h` is `number` (`DUNKELVA_AND` is 0), or
+/// `None` if the code is unknown.
 pub fn operator_of(number: u32) -> Option<BitOperator>
     ensures { result ≡ operator_number number }
 {
