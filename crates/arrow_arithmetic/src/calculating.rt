@@ -1,4 +1,4 @@
-//! Arithmetic on the rows of columns.
+//! Arithmetic on columns, row by row.
 
 ghost use Rattle.std.specs.Prelude.{◌≡◌, Some, length, IfOk, MatchResult, OnErr};
 ghost use Rattle.num_traits.specs.Laws.{bit_len};
@@ -19,29 +19,29 @@ use polars_arrays_bits::error::ComputeError;
 use polars_compute_arithmetic::arithmetic::pl_num::PlNumArithmetic;
 use std::alloc::Global;
 
-/// An operation on two numbers of one type. Results are wrapped to the type. A division by 0 has no
-/// result: its row is null.
+/// An operation on two numbers of a type. A result is wrapped to the type. If a number is divided
+/// by 0, there is no result, and the row is null.
 #[derive(Clone, Copy, PartialEq, Eq, Debug)]
 pub enum Arithmetic {
     Add,
     Subtract,
     Multiply,
-    /// Divides, rounding down.
+    /// Returns the quotient, rounded down.
     FloorDivide,
-    /// Divides, rounding toward 0.
+    /// Returns the quotient, rounded toward 0.
     TruncatingDivide,
-    /// Returns the remainder of the division that rounds down.
+    /// Returns the remainder that belongs to `FloorDivide`.
     Modulo,
 }
 
-/// The side of an operation on which a given number stands.
+/// The side of an operation on which a constant number is.
 #[derive(Clone, Copy, PartialEq, Eq, Debug)]
 pub enum Side {
     Left,
     Right,
 }
 
-/// A function of one number, wrapped to its type.
+/// A function of one number. A result is wrapped to the type.
 #[derive(Clone, Copy, PartialEq, Eq, Debug)]
 pub enum Sign {
     Negate,
@@ -49,7 +49,8 @@ pub enum Sign {
 }
 
 impl Arithmetic {
-    /// Returns the operation with this number in C, or `None` if there is none.
+    /// Returns the operation whose code in `dunkelva.h` is `number` (`DUNKELVA_ADD` is 0), or
+    /// `None` if the code is unknown.
     pub fn of(number: u32) -> Option<Arithmetic>
         ensures { result ≡ arithmetic_number number }
     {
@@ -66,7 +67,8 @@ impl Arithmetic {
 }
 
 impl Side {
-    /// Returns the side with this number in C, or `None` if there is none.
+    /// Returns the side whose code in `dunkelva.h` is `number` (`DUNKELVA_LEFT` is 0), or `None` if
+    /// the code is unknown.
     pub fn of(number: u32) -> Option<Side>
         ensures { result ≡ side_number number }
     {
@@ -79,7 +81,8 @@ impl Side {
 }
 
 impl Sign {
-    /// Returns the function with this number in C, or `None` if there is none.
+    /// Returns the function whose code in `dunkelva.h` is `number` (`DUNKELVA_NEGATE` is 0), or
+    /// `None` if the code is unknown.
     pub fn of(number: u32) -> Option<Sign>
         ensures { result ≡ sign_number number }
     {
@@ -91,7 +94,7 @@ impl Sign {
     }
 }
 
-// Returns the right numbers for which an operation has a result.
+// Returns for which right numbers an operation has a result. A division has none for 0.
 fn answered_rights(arithmetic: Arithmetic) -> Answered
     ensures { result ≡ rights_of arithmetic }
 {
@@ -105,8 +108,8 @@ fn answered_rights(arithmetic: Arithmetic) -> Answered
     }
 }
 
-// Returns the left numbers for which an operation has a result. `zero` says whether the right
-// number is 0.
+// Returns for which left numbers an operation with a constant right number has a result. `zero`
+// says whether the constant is 0. Divisions by 0 have no result.
 fn answered_lefts(arithmetic: Arithmetic, zero: bool) -> Answered
     ensures { result ≡ lefts_of zero arithmetic }
 {
@@ -123,8 +126,8 @@ fn answered_lefts(arithmetic: Arithmetic, zero: bool) -> Answered
     }
 }
 
-// Returns the rows for which an operation with a number has a result. The number stands on a side,
-// and `zero` says whether it is 0.
+// Returns for which numbers of a column an operation with a constant has a result. The constant is
+// on side `side`, and `zero` says whether it is 0.
 fn answered_beside(arithmetic: Arithmetic, side: Side, zero: bool) -> Answered
     ensures { result ≡ beside_of side zero arithmetic }
 {
@@ -134,9 +137,10 @@ fn answered_beside(arithmetic: Arithmetic, side: Side, zero: bool) -> Answered
     }
 }
 
-/// Writes the results of an operation on the rows at each place of two columns of one length, and
-/// returns a bit for each row, 1 if it is present: if both rows are, and there is a result. What is
-/// written for another row is arbitrary. The error is `Memory`; nothing is then written.
+/// Calculates the result for each pair of rows of two columns, and writes it into `out`. Returns a
+/// bit for each row, 1 if the result is present. A result is null if one of the two rows is null,
+/// or if there is no result; an arbitrary number is then written. The only error is `Memory`, and
+/// `out` is then unchanged.
 pub fn calculate<T: PlNumArithmetic>(
     alloc: Global,
     arithmetic: Arithmetic,
@@ -158,10 +162,10 @@ pub fn calculate<T: PlNumArithmetic>(
     Ok(present)
 }
 
-/// Writes the results of an operation on each row of a column and a number, which stands on the
-/// side that is named, and returns a bit for each row, 1 if it is present: if the row of the column
-/// is, and there is a result. What is written for another row is arbitrary. The error is `Memory`;
-/// nothing is then written.
+/// Calculates the result for each row of a column and the constant `number`, which is on side
+/// `side` of the operation, and writes it into `out`. Returns a bit for each row, 1 if the result
+/// is present. A result is null if the row is null, or if there is no result; an arbitrary number
+/// is then written. The only error is `Memory`, and `out` is then unchanged.
 pub fn calculate_number<T: PlNumArithmetic>(
     alloc: Global,
     arithmetic: Arithmetic,
@@ -185,9 +189,9 @@ pub fn calculate_number<T: PlNumArithmetic>(
     Ok(present)
 }
 
-/// Writes the results of a function of each row of a column, and returns a bit for each row, 1 if
-/// it is present. What is written for another row is arbitrary. The error is `Memory`; nothing is
-/// then written.
+/// Calculates a function of each row of a column, and writes the results into `out`. Returns a bit
+/// for each row, 1 if the row is present. An arbitrary number is written for a null row. The only
+/// error is `Memory`, and `out` is then unchanged.
 pub fn change_sign<T: PlNumArithmetic>(
     alloc: Global,
     sign: Sign,

@@ -1,4 +1,4 @@
-//! Functions of one number, a type for each.
+//! Functions of one number. Each one is a type, so that generic loops can inline it.
 
 ghost use Rattle.std.specs.Prelude.{◌≡◌};
 ghost use Rattle.num_traits.specs.Laws.{bit_len};
@@ -11,31 +11,31 @@ use polars_compute_arithmetic::arithmetic::pl_num::PlNumArithmetic;
 
 /// A function of one number.
 pub(crate) trait NumberFunction<T: NativeType> {
-    // The function of whole numbers.
+    // The function of integers that `apply` computes in type `T`.
     ghost meaning: { Self → Function };
 
-    /// Returns the result wrapped to the type, or 0 if there is none.
+    /// Returns the result wrapped to the type, or 0 if the function has no result for `number`.
     fn apply(&self, number: T) -> T
         ensures { T.value result
             ≡ wrapped T.low (bit_len T.width) (or_zero (meaning self.now (T.value number))) };
 }
 
-/// Negation.
+/// The function that negates a number.
 #[derive(Drop)]
 pub(crate) struct Negation;
 
-/// The distance from 0.
+/// The function that returns the absolute value of a number.
 #[derive(Drop)]
 pub(crate) struct Magnitude;
 
-/// An operation whose right number is given.
+/// The function of a left number that applies an operation with a constant right number.
 #[derive(Drop)]
 pub(crate) struct WithRight<T, O> {
     pub operation: O,
     pub right: T,
 }
 
-/// An operation whose left number is given.
+/// The function of a right number that applies an operation with a constant left number.
 #[derive(Drop)]
 pub(crate) struct WithLeft<T, O> {
     pub operation: O,

@@ -1,4 +1,4 @@
-//! Arithmetic on columns of borrowed numbers, into the caller's memory.
+//! Arithmetic on borrowed columns of numbers. Results are written into the caller's memory.
 #![tactic(auto)]
 
 pub mod calculating;

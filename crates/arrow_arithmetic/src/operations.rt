@@ -1,4 +1,4 @@
-//! Operations on two numbers, a type for each, so that the loops over columns are written once.
+//! Operations on two numbers. Each one is a type, so that the loops over columns are written once.
 
 ghost use Rattle.std.specs.Prelude.{◌≡◌};
 ghost use Rattle.num_traits.specs.Laws.{bit_len};
@@ -10,10 +10,11 @@ use polars_compute_arithmetic::arithmetic::pl_num::PlNumArithmetic;
 
 /// An operation on two numbers.
 pub(crate) trait NumberOperation<T: NativeType> {
-    // The operation on whole numbers.
+    // The operation on integers that `apply` computes in type `T`.
     ghost meaning: { Operation };
 
-    /// Returns the result wrapped to the type, or 0 if there is none.
+    /// Returns the result wrapped to the type, or 0 if the operation has none, as in a division by
+    /// 0.
     fn apply(&self, left: T, right: T) -> T
         ensures { Gives T.value T.low (bit_len T.width) meaning left right result };
 }
@@ -38,7 +39,7 @@ pub(crate) struct FloorQuotient;
 #[derive(Drop)]
 pub(crate) struct TruncatedQuotient;
 
-/// The remainder of division, rounding down.
+/// The remainder of division, where the quotient is rounded down.
 #[derive(Drop)]
 pub(crate) struct Modulus;
 

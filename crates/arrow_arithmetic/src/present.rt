@@ -1,4 +1,4 @@
-//! Which rows of a result are present.
+//! The validity of results.
 
 ghost use Rattle.std.specs.Prelude.{◌≡◌, length, map, IfOk, MatchResult};
 ghost use Rattle.arrow_arithmetic.specs.Answers.{is_answered};
@@ -15,7 +15,7 @@ use polars_arrays_numbers::comparison::Unequal;
 use polars_arrays_numbers::native_type::NativeType;
 use std::alloc::Global;
 
-/// The stored numbers for which an operation has a result.
+/// The numbers for which an operation has a result: every number, every number but 0, or none.
 #[derive(Clone, Copy)]
 pub(crate) enum Answered {
     Each,
@@ -23,7 +23,8 @@ pub(crate) enum Answered {
     Nothing,
 }
 
-// Returns a bit for each number, 1 if there is a result for it.
+// Returns a bit for each number of `values`, 1 if the operation has a result for it. The only error
+// is `Memory`.
 fn answered_bits<T: NativeType + Zero>(
     alloc: Global,
     answered: Answered,
@@ -39,7 +40,8 @@ fn answered_bits<T: NativeType + Zero>(
     }
 }
 
-/// Returns a bit for each row of a column, 1 if the row is present and has a result.
+/// Returns a bit for each row of a column, 1 if the row is present and the operation has a result
+/// for its number. The only error is `Memory`.
 pub(crate) fn present_rows<T: NativeType + Zero>(
     alloc: Global,
     answered: Answered,
@@ -55,7 +57,8 @@ pub(crate) fn present_rows<T: NativeType + Zero>(
     Ok(bits.freeze())
 }
 
-/// Returns a bit for each pair of rows, 1 if both are present and the right one has a result.
+/// Returns a bit for each pair of rows, 1 if both rows are present and the operation has a result
+/// for the right number. The only error is `Memory`.
 pub(crate) fn present_pairs<T: NativeType + Zero>(
     alloc: Global,
     answered: Answered,

@@ -1,4 +1,4 @@
-//! The numbers of results, written into the caller's memory.
+//! Loops that write results into the caller's memory.
 
 ghost use Rattle.std.specs.Prelude.{◌≡◌, ℤ, List, length, map};
 ghost use Rattle.std.specs.Simd.Lanes.{zip2};
@@ -16,7 +16,7 @@ use arrow_columns::writing::{Computed, write};
 use polars_arrays_numbers::native_type::NativeType;
 use polars_compute_arithmetic::arithmetic::pl_num::PlNumArithmetic;
 
-// The results for the numbers at each place of two slices.
+// The results of an operation on each pair of numbers of two slices.
 #[derive(Drop)]
 struct Pairs<'a, T, O> {
     left: &'a [T],
@@ -25,7 +25,7 @@ struct Pairs<'a, T, O> {
     ghost one_length: { length right.now ≡ length left.now },
 }
 
-// The results for the numbers of a slice.
+// The results of a function of each number of a slice.
 #[derive(Drop)]
 struct Each<'a, T, F> {
     values: &'a [T],
@@ -74,7 +74,8 @@ impl<'a, T: NativeType, F: NumberFunction<T>> Computed<T> for Each<'a, T, F> {
     }
 }
 
-// Writes the results of an operation on the numbers at each place.
+// Applies an operation to each pair of numbers of two slices, and writes the results into `out`. If
+// there is no result, 0 is written.
 fn write_operation<T: NativeType, O: NumberOperation<T> + Drop>(
     operation: O,
     left: &[T],
@@ -96,7 +97,8 @@ fn write_operation<T: NativeType, O: NumberOperation<T> + Drop>(
     );
 }
 
-// Writes the results of a function of each number.
+// Applies a function to each number, and writes the results into `out`. If there is no result, 0 is
+// written.
 fn write_function<T: NativeType, F: NumberFunction<T> + Drop>(
     function: F,
     values: &[T],
@@ -109,7 +111,8 @@ fn write_function<T: NativeType, F: NumberFunction<T> + Drop>(
     write(&Each { values, function }, out);
 }
 
-/// Writes the results for the numbers at each place of two slices.
+/// Writes the result of an operation for each pair of numbers of two slices into `out`, or 0 if
+/// there is no result.
 pub(crate) fn write_pairs<T: PlNumArithmetic>(
     arithmetic: Arithmetic,
     left: &[T],
@@ -131,7 +134,8 @@ pub(crate) fn write_pairs<T: PlNumArithmetic>(
     }
 }
 
-// Writes the results of an operation on each number and one that stands on a side.
+// Writes the result of an operation for each number and the constant `number`, which is on side
+// `side`, into `out`, or 0 if there is no result.
 fn write_placed<T: PlNumArithmetic, O: NumberOperation<T> + Drop>(
     operation: O,
     side: Side,
@@ -155,7 +159,8 @@ fn write_placed<T: PlNumArithmetic, O: NumberOperation<T> + Drop>(
     }
 }
 
-/// Writes the results for each number and one that stands on a side.
+/// Writes the result of an operation for each number and the constant `number`, which is on side
+/// `side`, into `out`, or 0 if there is no result.
 pub(crate) fn write_beside<T: PlNumArithmetic>(
     arithmetic: Arithmetic,
     side: Side,
@@ -177,7 +182,7 @@ pub(crate) fn write_beside<T: PlNumArithmetic>(
     }
 }
 
-/// Writes the results of a function of each number.
+/// Writes the result of a function for each number into `out`.
 pub(crate) fn write_signs<T: PlNumArithmetic>(sign: Sign, values: &[T], out: &mut [T])
     requires { length out.old ≡ length values.now }
     ensures { map T.value out.new ≡ map (λ x. wrapped T.low (bit_len T.width)
