@@ -1,4 +1,4 @@
-//! Arrays of whole trees of parts.
+//! Builds an array, with all arrays inside it, from the parts of a lent array.
 #![tactic(auto, using(crate::proofs::Stacks::stacks))]
 
 ghost use Rattle.std.specs.Prelude.{◌≡◌, ◌≤◌, ◌+◌, ◌++◌, ◌∷◌, [], List, IfErr, IfOk, OnOk, length};
@@ -22,7 +22,8 @@ use polars_arrays_flat::data_type::Field;
 use polars_arrays_nested::any_array::AnyArray;
 use std::alloc::Global;
 
-/// Returns the name of a part. The error is `Parts` if it is not UTF-8.
+/// Returns a copy of the name of a part. Fails with `Parts` if the name is not UTF-8, and with
+/// `Memory` if an allocation fails.
 fn name_of(alloc: Global, part: &Part<'_>) -> Result<String, Refused>
     ensures text { IfOk result (λ _. IsUtf8 part.now.name.now) }
     ensures name { IfOk result (λ name. string_bytes name ≡ part.now.name.now) }
@@ -34,7 +35,7 @@ fn name_of(alloc: Global, part: &Part<'_>) -> Result<String, Refused>
     }
 }
 
-/// Puts the name of a part on top of others.
+/// Pushes the name of a part onto the stack `names`. Fails as `name_of` does.
 fn put_name(alloc: Global, part: &Part<'_>, names: &mut Vec<String>) -> Result<(), Refused>
     ensures text { OnOk result (IsUtf8 part.now.name.now) }
     ensures longer { OnOk result (length names.new.items ≡ length names.old.items + 1) }
@@ -47,7 +48,8 @@ fn put_name(alloc: Global, part: &Part<'_>, names: &mut Vec<String>) -> Result<(
     Ok(())
 }
 
-/// Takes arrays from the top, the topmost first.
+/// Pops `count` arrays from `stack`, and returns them, the topmost first. Fails with `Parts` if the
+/// stack has fewer, and with `Memory` if an allocation fails.
 fn take_columns(
     alloc: Global,
     count: usize,
@@ -70,8 +72,8 @@ fn take_columns(
     Ok(columns)
 }
 
-/// Takes a name from the top for each column, and returns the columns' names and types. The one
-/// error is `Memory`.
+/// Pops a name from the stack `names` for each column. Returns the fields of the columns: their
+/// names and types. The only error is `Memory`.
 fn take_fields(
     alloc: Global,
     columns: &[AnyArray],
@@ -96,7 +98,8 @@ fn take_fields(
     Ok(fields)
 }
 
-/// Takes the arrays inside another, and their names, from the top.
+/// Pops the `count` children of an array and their names from two stacks. Fails with `Parts` if
+/// there are fewer arrays, and with `Memory` if an allocation fails.
 fn take_inside(
     alloc: Global,
     count: usize,
@@ -117,7 +120,7 @@ fn take_inside(
     Ok(Inside { fields, columns })
 }
 
-/// Takes the last shape.
+/// Removes the last shape, and returns it. Fails with `Parts` if there is none.
 fn take_shape(shapes: &mut Vec<Shape>) -> Result<Shape, Refused>
     ensures taken { IfOk result (λ s. shapes.old.items ≡ shapes.new.items ++ s ∷ []) }
     ensures none { IfErr result (λ _. length shapes.old.items ≡ 0) }
@@ -128,7 +131,8 @@ fn take_shape(shapes: &mut Vec<Shape>) -> Result<Shape, Refused>
     }
 }
 
-/// Takes the last shape, and the arrays inside it from the top, and returns its array.
+/// Pops the last shape and its `count` child arrays, and returns the array built of them. Fails
+/// with `Parts` if they make no array, and with `Memory` if an allocation fails.
 fn filled(
     alloc: Global,
     count: usize,
@@ -153,7 +157,8 @@ fn filled(
     Ok(array)
 }
 
-/// Puts the array of the last shape on top, in place of the arrays inside it.
+/// Builds the array of the last shape, and pushes it onto `stack` in place of its `count` child
+/// arrays. Fails as `filled` does.
 fn step(
     alloc: Global,
     count: usize,
@@ -177,7 +182,7 @@ fn step(
     Ok(())
 }
 
-/// Puts the shape of a part after others.
+/// Appends the shape of a part to `shapes`. Fails as `shape_of` does.
 fn put_shape(alloc: Global, part: &Part<'_>, shapes: &mut Vec<Shape>) -> Result<(), Refused>
     ensures put { OnOk result
         ((ps : List Part) → AllFit ps shapes.old.items
@@ -189,7 +194,8 @@ fn put_shape(alloc: Global, part: &Part<'_>, shapes: &mut Vec<Shape>) -> Result<
     Ok(())
 }
 
-/// Returns the shapes of parts.
+/// Returns the shape of each part, in order. Fails with `Parts` if a part makes no array, and with
+/// `Memory` if an allocation fails.
 fn shapes_of(alloc: Global, parts: &[Part<'_>]) -> Result<Vec<Shape>, Refused>
     ensures fit { IfOk result (λ shapes. AllFit parts.now shapes.items) }
     ensures refused { IfErr result (IsHonest (AllGood parts.now)) }
@@ -201,11 +207,12 @@ fn shapes_of(alloc: Global, parts: &[Part<'_>]) -> Result<Vec<Shape>, Refused>
     Ok(shapes)
 }
 
-/// Returns the array that parts in pre-order describe. Its rows are copies, so nothing stays lent.
+/// Builds the array that parts in pre-order describe. The array copies all data, so it doesn't
+/// borrow from the parts.
 ///
-/// The error is `Parts` exactly if the parts make no array, and else `Memory`: an allocation
-/// failed. A text between offsets, masked or not, has to be UTF-8; keys and views of masked rows
-/// are arbitrary.
+/// Fails with `Parts` if and only if the parts make no array, and else with `Memory` if an
+/// allocation fails. Every text between two offsets has to be UTF-8, also under a null. The keys
+/// and views of masked rows may be arbitrary.
 pub fn build(alloc: Global, parts: &[Part<'_>]) -> Result<AnyArray, Refused>
     ensures stands { IfOk result (λ a. Stands a (rows_of_parts parts.now)) }
     ensures good { IfOk result (λ _. AreGoodParts parts.now) }
@@ -215,7 +222,7 @@ pub fn build(alloc: Global, parts: &[Part<'_>]) -> Result<AnyArray, Refused>
     let mut stack: Vec<AnyArray> = Vec::new(alloc);
     let mut names: Vec<String> = Vec::new(alloc);
     let count = parts.len();
-    // The last part comes first, so that the arrays inside another are made before it.
+    // The parts are visited from last to first, so that child arrays are built before their parent.
     for i in 0..count {
         let part = &parts[count - 1 - i];
         step(

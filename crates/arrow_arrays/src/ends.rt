@@ -1,4 +1,4 @@
-//! Offsets of strings and lists, as places among what is lent.
+//! Conversion of lent offsets of strings and lists.
 #![tactic(auto, using(crate::proofs::EndLemmas::ends))]
 
 ghost use Rattle.std.specs.Prelude.{◌≡◌, ◌≢◌, IfErr, IfNone, IfOk, IfSome, None};
@@ -13,9 +13,9 @@ use polars_arrays_bits::buffer::Buffer;
 use polars_arrays_numbers::offset::Offset;
 use std::alloc::Global;
 
-/// A type of offsets that is lent: signed, of 32 or 64 bits.
+/// A type of lent offsets: `i32` or `i64`.
 pub trait LentOffset: Offset {
-    /// Returns the offset as a number of 64 bits.
+    /// Converts the offset to `i64`.
     fn wide(self) -> i64
         ensures { result ≡ Self.value self };
 }
@@ -34,7 +34,7 @@ impl LentOffset for i64 {
     }
 }
 
-/// Returns an offset less the base, or None if it lies before the base.
+/// Returns `offset - base`, or `None` if the offset is negative or less than `base`.
 #[inline(always)]
 fn end_from(offset: i64, base: usize) -> Option<i64>
     ensures some { IfSome result (λ end. natural_of end ≡ place_from base (natural_of offset)) }
@@ -50,8 +50,8 @@ fn end_from(offset: i64, base: usize) -> Option<i64>
     }
 }
 
-/// Returns offsets less the base, as numbers of 64 bits. The error is `Parts` if one lies before
-/// the base, and `Memory` if an allocation fails.
+/// Subtracts `base` from each offset, and returns the results as `i64`. Fails with `Parts` if an
+/// offset is negative or less than `base`, and with `Memory` if an allocation fails.
 pub fn ends_from<O: LentOffset>(
     alloc: Global,
     base: usize,

@@ -1,4 +1,5 @@
-//! Arrays that are made of lent parts: copies, so that nothing stays lent, of good parts alone.
+//! Builds arrays from lent parts. The parts are checked, and all data is copied, so that the arrays
+//! do not borrow.
 #![tactic(auto)]
 
 pub mod build;

@@ -1,4 +1,4 @@
-//! Shapes that are filled with the arrays inside them.
+//! Builds nested arrays: puts child arrays into a `Shape`, which is an array without its children.
 #![tactic(auto, using(crate::proofs::Standing::filling))]
 
 ghost use Rattle.std.specs.Prelude.{◌≡◌, ◌∷◌, [], length, IfErr, IfOk};
@@ -24,14 +24,14 @@ use polars_arrays_nested::list_offsets::ListOffsets;
 use polars_arrays_nested::struct_array::StructArray;
 use std::alloc::Global;
 
-/// The arrays inside another, and a struct's fields for them.
+/// The child arrays of an array. `fields` has the name and type of each of `columns`.
 #[derive(Drop)]
 pub struct Inside {
     pub fields: Vec<Field>,
     pub columns: Vec<AnyArray>,
 }
 
-/// Returns the one array. The error is `Parts` if there are more, or none.
+/// Returns the only array of a vector. Fails with `Parts` unless there is exactly one.
 pub fn only_one(columns: Vec<AnyArray>) -> Result<AnyArray, Refused>
     ensures one { IfOk result (λ a. columns.items ≡ a ∷ []) }
     ensures refused { IfErr result (IsHonest (length columns.items ≡ 1)) }
@@ -46,7 +46,9 @@ pub fn only_one(columns: Vec<AnyArray>) -> Result<AnyArray, Refused>
     }
 }
 
-/// Returns lists of items.
+/// Builds a list array with the child array `items`. Fails with `Parts` if an offset is greater
+/// than the number of items, or the offsets or the validity don't fit, and with `Memory` if an
+/// allocation fails.
 fn lists(
     alloc: Global,
     offsets: ListOffsets,
@@ -63,7 +65,9 @@ fn lists(
     Ok(AnyArray::List(array))
 }
 
-/// Returns lists of one width of items.
+/// Builds an array of lists of `size.width` items each, with the child array `items`. Fails with
+/// `Parts` if the number of items or the validity doesn't fit, and with `Memory` if an allocation
+/// fails.
 fn fixed_lists(
     alloc: Global,
     size: Size,
@@ -80,7 +84,8 @@ fn fixed_lists(
     Ok(AnyArray::FixedSizeList(array))
 }
 
-/// Returns a dictionary of entries.
+/// Builds a dictionary array with the entries `items`. Fails with `Parts` if a key of a present row
+/// is not the index of an entry, and with `Memory` if an allocation fails.
 fn entries(alloc: Global, keys: DictKeys, items: AnyArray) -> Result<AnyArray, Refused>
     requires { IsGood items }
     ensures made { IfOk result (FillsOne (Entries keys) items) }
@@ -92,7 +97,8 @@ fn entries(alloc: Global, keys: DictKeys, items: AnyArray) -> Result<AnyArray, R
     Ok(AnyArray::Dictionary(array))
 }
 
-/// Returns structs of columns.
+/// Builds a struct array with `rows` rows and the child arrays `inside`. Fails with `Parts` if they
+/// make no array, and with `Memory` if an allocation fails.
 fn structs(rows: usize, validity: Option<Bitmap>, inside: Inside) -> Result<AnyArray, Refused>
     requires good { All IsGood inside.columns.items }
     requires typed { AreTyped inside.fields.items inside.columns.items }
@@ -106,7 +112,8 @@ fn structs(rows: usize, validity: Option<Bitmap>, inside: Inside) -> Result<AnyA
     Ok(AnyArray::Struct(array))
 }
 
-/// Returns lists of the one array inside.
+/// Builds a list array whose items are the only child array. Fails with `Parts` if there isn't
+/// exactly one, and as `lists` does.
 fn listed(
     alloc: Global,
     offsets: ListOffsets,
@@ -124,7 +131,8 @@ fn listed(
     Ok(array)
 }
 
-/// Returns lists of one width of the one array inside.
+/// Builds an array of lists of a fixed size, whose items are the only child array. Fails with
+/// `Parts` if there isn't exactly one, and as `fixed_lists` does.
 fn fixed_listed(
     alloc: Global,
     size: Size,
@@ -142,7 +150,8 @@ fn fixed_listed(
     Ok(array)
 }
 
-/// Returns a dictionary of the one array inside.
+/// Builds a dictionary array whose entries are the only child array. Fails with `Parts` if there
+/// isn't exactly one, and as `entries` does.
 fn entered(alloc: Global, keys: DictKeys, inside: Inside) -> Result<AnyArray, Refused>
     requires { All IsGood inside.columns.items }
     ensures made { IfOk result (Fills (Entries keys) inside.fields.items inside.columns.items) }
@@ -154,8 +163,9 @@ fn entered(alloc: Global, keys: DictKeys, inside: Inside) -> Result<AnyArray, Re
     Ok(array)
 }
 
-/// Returns the array of a shape and of the arrays inside it. The error is `Parts` if these make no
-/// array, and `Memory` if an allocation fails.
+/// Builds the array of a shape and of its child arrays. A leaf is returned unchanged, and its
+/// children are ignored. Fails with `Parts` if the shape and the children make no array, and with
+/// `Memory` if an allocation fails.
 pub fn fill(alloc: Global, shape: Shape, inside: Inside) -> Result<AnyArray, Refused>
     requires columns { All IsGood inside.columns.items }
     requires typed { AreTyped inside.fields.items inside.columns.items }

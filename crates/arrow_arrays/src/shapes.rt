@@ -1,4 +1,4 @@
-//! Shapes: the arrays of parts without the arrays inside them.
+//! Shapes: the arrays of parts, without their child arrays.
 #![tactic(auto, using(crate::proofs::Fitting::fitting))]
 
 ghost use Rattle.std.specs.Prelude.{IfErr, IfOk};
@@ -21,7 +21,8 @@ use polars_arrays_nested::dict_keys::DictKeys;
 use polars_arrays_nested::list_offsets::ListOffsets;
 use std::alloc::Global;
 
-// The shape of an array of one level, of a kind of `AnyArray`.
+// Makes the shape of an array without children: the variant `$kind` of `AnyArray`, unless `$array`
+// is an error.
 macro_rules! leaf {
     ($kind:ident, $array:expr) => {
         match $array {
@@ -31,7 +32,8 @@ macro_rules! leaf {
     };
 }
 
-// The shape of a dictionary, of a type of `DictKeys`.
+// Makes the shape of a dictionary, whose keys are the variant `$kind` of `DictKeys`, unless `$keys`
+// is an error.
 macro_rules! entries {
     ($kind:ident, $keys:expr) => {
         match $keys {
@@ -41,14 +43,16 @@ macro_rules! entries {
     };
 }
 
-/// The number of items of each list, and the number of lists.
+/// The size of an array of lists of a fixed size. `width` is the number of items of each list, and
+/// `rows` is the number of lists.
 #[derive(Clone, Copy)]
 pub struct Size {
     pub width: usize,
     pub rows: usize,
 }
 
-/// An array without the arrays inside it.
+/// An array without its child arrays: a whole array if its kind has no children, and else the
+/// offsets, sizes, keys and validity. `fill` adds the children.
 #[derive(Drop)]
 pub enum Shape {
     Leaf(AnyArray),
@@ -58,7 +62,8 @@ pub enum Shape {
     Entries(DictKeys),
 }
 
-/// Returns the shape of lists between offsets.
+/// Returns the shape of a part that is a list array. Fails with `Parts` if `ends` or `present`
+/// does, and with `Memory` if an allocation fails.
 fn lists<O: LentOffset>(alloc: Global, part: &Part<'_>, offsets: &[O]) -> Result<Shape, Refused>
     ensures made { IfOk result
         (FitsLists (places_from part.now.base O.value offsets.now) part.now) }
@@ -70,7 +75,8 @@ fn lists<O: LentOffset>(alloc: Global, part: &Part<'_>, offsets: &[O]) -> Result
     Ok(Shape::Lists(ListOffsets::Large(ends), validity))
 }
 
-/// Returns the shape of lists of one width.
+/// Returns the shape of a part that is an array of lists of a fixed size. Fails with `Parts` if
+/// there are fewer validity bits than rows, and with `Memory` if an allocation fails.
 fn fixed_lists(alloc: Global, part: &Part<'_>) -> Result<Shape, Refused>
     ensures made { IfOk result (FitsKind kinds.FixedSizeList part.now) }
     ensures refused { IfErr result (IsHonestOver (GoodKind kinds.FixedSizeList part.now)) }
@@ -83,7 +89,8 @@ fn fixed_lists(alloc: Global, part: &Part<'_>) -> Result<Shape, Refused>
     Ok(Shape::FixedLists(size, validity))
 }
 
-/// Returns the shape of structs.
+/// Returns the shape of a part that is a struct array. Fails with `Parts` if there are fewer
+/// validity bits than rows, and with `Memory` if an allocation fails.
 fn structs(alloc: Global, part: &Part<'_>) -> Result<Shape, Refused>
     ensures made { IfOk result (FitsKind kinds.Struct part.now) }
     ensures refused { IfErr result (IsHonestOver (GoodKind kinds.Struct part.now)) }
@@ -92,7 +99,8 @@ fn structs(alloc: Global, part: &Part<'_>) -> Result<Shape, Refused>
     Ok(Shape::Structs(part.rows, validity))
 }
 
-/// Returns the shape of a part of a kind.
+/// Returns the shape of a part, read as an array of kind `kind`. Arrays with offsets of 32 bits or
+/// with views become those with offsets of 64 bits. Fails as `shape_of` does.
 fn shape_of_kind(alloc: Global, kind: PartKind, part: &Part<'_>) -> Result<Shape, Refused>
     ensures made { IfOk result (FitsKind kind part.now) }
     ensures refused { IfErr result (IsHonestOver (GoodKind kind part.now)) }
@@ -132,8 +140,8 @@ fn shape_of_kind(alloc: Global, kind: PartKind, part: &Part<'_>) -> Result<Shape
     }
 }
 
-/// Returns the shape of a part. The error is `Parts` if the part makes no array, whatever is inside
-/// it, and `Memory` if an allocation fails.
+/// Returns the shape of a part. Fails with `Parts` if the kind is unknown, or if the part can't be
+/// an array with any children, and with `Memory` if an allocation fails.
 pub fn shape_of(alloc: Global, part: &Part<'_>) -> Result<Shape, Refused>
     ensures made { IfOk result (FitsPart part.now) }
     ensures refused { IfErr result (IsHonestOver (GoodRows (kind_number part.now.kind) part.now)) }

@@ -1,4 +1,5 @@
-//! Validity, numbers, truth values and byte strings of a part, copied into arrays.
+//! Conversion of a part's validity, numbers, truth values and byte strings to arrays. All data is
+//! copied.
 #![tactic(auto, using(crate::proofs::SlotLemmas::refusals))]
 
 ghost use Rattle.std.specs.Prelude.{◌≡◌, length, IfOk, IfErr};
@@ -23,8 +24,8 @@ use polars_arrays_flat::primitive::PrimitiveArray;
 use polars_arrays_numbers::native_type::NativeType;
 use std::alloc::Global;
 
-/// Returns which rows of a part are present, or None if all are. The error is `Parts` if there are
-/// fewer bits than rows, and `Memory` if an allocation fails.
+/// Returns the validity of a part as a bitmap, or `None` if the part has no validity bits. Fails
+/// with `Parts` if there are fewer bits than rows, and with `Memory` if an allocation fails.
 pub fn present(alloc: Global, part: &Part<'_>) -> Result<Option<Bitmap>, Refused>
     ensures mask { IfOk result (λ bits. bits ≡ present_in part.now) }
     ensures held { IfOk result (λ _. HoldRows part.now) }
@@ -33,7 +34,7 @@ pub fn present(alloc: Global, part: &Part<'_>) -> Result<Option<Bitmap>, Refused
     validity(alloc, part.present, part.first_bit, part.rows)
 }
 
-/// Returns a copy of a slice. The one error is `Memory`.
+/// Copies a slice into a new buffer. The only error is `Memory`.
 fn copied<T: Copy>(alloc: Global, elements: &[T]) -> Result<Buffer<T>, Refused>
     ensures copy { IfOk result (λ buffer. buffer.items ≡ elements.now) }
     ensures refused { IfErr result IsMemoryFailure }
@@ -41,8 +42,9 @@ fn copied<T: Copy>(alloc: Global, elements: &[T]) -> Result<Buffer<T>, Refused>
     Ok(Buffer::from_vec(Vec::from_slice(alloc, elements)?))
 }
 
-/// Returns the array of a part's rows, which are numbers. The error is `Parts` unless there is one
-/// for each row and a bit for each row, and `Memory` if an allocation fails.
+/// Returns the array of the numbers `values` under the validity of a part. Fails with `Parts` if
+/// there isn't one number for each row, or if there are fewer validity bits than rows, and with
+/// `Memory` if an allocation fails.
 pub fn numbers<T: NativeType>(
     alloc: Global,
     part: &Part<'_>,
@@ -60,8 +62,8 @@ pub fn numbers<T: NativeType>(
     Ok(array)
 }
 
-/// Returns the array of a part's rows, which are truth values. The error is `Parts` unless there is
-/// a bit for each row, and `Memory` if an allocation fails.
+/// Returns the Boolean array of a part. Fails with `Parts` if there are fewer bits than rows, and
+/// with `Memory` if an allocation fails.
 pub fn truths(alloc: Global, part: &Part<'_>) -> Result<BooleanArray, Refused>
     ensures made { IfOk result (IsTruths part.now) }
     ensures refused { IfErr result (IsHonest (AreTruths part.now)) }
@@ -72,9 +74,9 @@ pub fn truths(alloc: Global, part: &Part<'_>) -> Result<BooleanArray, Refused>
     Ok(array)
 }
 
-/// Returns the ends of a part's rows, which are strings or lists between offsets. The error is
-/// `Parts` unless there is one offset more than rows and none lies before the base, and `Memory`
-/// if an allocation fails.
+/// Returns the offsets of a part's strings or lists, less the base of the part. Fails with `Parts`
+/// if there isn't one offset more than rows, or if an offset is less than the base, and with
+/// `Memory` if an allocation fails. A part without rows may have no offset at all.
 pub fn ends<O: LentOffset>(
     alloc: Global,
     part: &Part<'_>,
@@ -93,8 +95,8 @@ pub fn ends<O: LentOffset>(
     Ok(ends)
 }
 
-/// Returns the array of a part's rows, which are byte strings. The error is `Parts` unless the
-/// offsets are those of the rows and lead into the bytes, and `Memory` if an allocation fails.
+/// Returns the array of a part's byte strings. Fails with `Parts` if the offsets or the validity
+/// don't fit the rows, or an offset lies past the bytes, and with `Memory` if an allocation fails.
 pub fn strings<O: LentOffset>(
     alloc: Global,
     part: &Part<'_>,
@@ -114,8 +116,9 @@ pub fn strings<O: LentOffset>(
     Ok(array)
 }
 
-/// Returns the array of a part's rows, which are texts. The error is also `Parts` if a text, masked
-/// or not, is not UTF-8.
+/// Returns the array of a part's texts. Fails with `Parts` if the offsets or the validity don't
+/// fit, or if a text is not UTF-8, also one under a null. Fails with `Memory` if an allocation
+/// fails.
 pub fn texts<O: LentOffset>(
     alloc: Global,
     part: &Part<'_>,
@@ -135,8 +138,9 @@ pub fn texts<O: LentOffset>(
     Ok(array)
 }
 
-/// Returns the array of a part's rows, which are byte strings of one size. The error is `Parts`
-/// unless the bytes are exactly those of the rows, and `Memory` if an allocation fails.
+/// Returns the array of a part's byte strings of `part.width` bytes each. Fails with `Parts` unless
+/// there are exactly the bytes of all rows, and enough validity bits. Fails with `Memory` if an
+/// allocation fails.
 pub fn sized_strings(alloc: Global, part: &Part<'_>) -> Result<FixedSizeBinaryArray, Refused>
     ensures made { IfOk result (IsSizedStrings part.now) }
     ensures refused { IfErr result (IsHonest (AreSized part.now (length part.now.u8s.now))) }

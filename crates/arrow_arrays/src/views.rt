@@ -1,4 +1,4 @@
-//! Rows of views, copied into byte strings one after the other.
+//! Conversion of views to byte strings. The bytes of all rows are copied into one buffer.
 #![tactic(auto, using(crate::proofs::ViewRows::views))]
 
 ghost use Rattle.std.specs.Prelude.{◌≡◌, ◌↔◌, ◌+◌, ◌*◌, ◌^◌, ◌≤◌, ◌<◌, ◌++◌, true, length, take};
@@ -24,7 +24,7 @@ use polars_arrays_bytes::text::Utf8Array;
 use polars_arrays_views::view::View;
 use std::alloc::Global;
 
-/// Returns sixteen bytes as a view.
+/// Returns the view that is stored as sixteen bytes.
 #[inline(always)]
 fn view_of(bytes: &[u8]) -> View
     requires { length bytes.now ≡ 16 }
@@ -35,7 +35,7 @@ fn view_of(bytes: &[u8]) -> View
     View::new(all)
 }
 
-/// Returns whether all bytes are zero.
+/// Returns whether all bytes are 0.
 #[inline(always)]
 fn is_zero(bytes: &[u8]) -> bool
     ensures { IsTrue result ↔ AllZero bytes.now }
@@ -43,7 +43,8 @@ fn is_zero(bytes: &[u8]) -> bool
     bytes.iter().all(|b| *b == 0)
 }
 
-/// Returns whether the numbers of a view are below 2^31.
+/// Returns whether the length, the buffer's index and the offset of a view are below 2^31, that is,
+/// not negative in the Arrow format.
 #[inline(always)]
 fn is_not_negative(view: &View) -> bool
     ensures { IsTrue result ↔ NotNegative view.now }
@@ -51,8 +52,8 @@ fn is_not_negative(view: &View) -> bool
     view.len() < 1 << 31 && view.buffer() < 1 << 31 && view.offset() < 1 << 31
 }
 
-/// Returns the `len` bytes of a row that lies in its view, or None if other bytes than zeros are
-/// after it.
+/// Returns the row that is stored inline in the view `bytes`. Its length `len` is at most 12.
+/// Returns `None` if a byte after the row is not 0.
 #[inline(always)]
 fn short_row(bytes: &[u8], len: usize) -> Option<&[u8]>
     requires size { length bytes.now ≡ 16 }
@@ -68,8 +69,8 @@ fn short_row(bytes: &[u8], len: usize) -> Option<&[u8]>
     }
 }
 
-/// Returns the bytes of a row of more than 12 bytes, or None if it does not lie in its buffer or
-/// does not begin with the prefix.
+/// Returns the row of a view that is longer than 12 bytes. Returns `None` if its buffer doesn't
+/// exist or is too short, or if the row doesn't begin with `prefix`.
 #[inline(always)]
 fn long_row<'a>(view: &View, prefix: &[u8], buffers: &'a [Bytes<'a>]) -> Option<&'a [u8]>
     requires long { 12 < view_len view.now }
@@ -89,7 +90,7 @@ fn long_row<'a>(view: &View, prefix: &[u8], buffers: &'a [Bytes<'a>]) -> Option<
     Some(&bytes[at..at + len])
 }
 
-/// Returns the bytes of the row that a view of sixteen bytes leads to, or None if it leads to none.
+/// Returns the row of the view that is stored as sixteen bytes, or `None` if the view is not valid.
 fn row_of<'a>(bytes: &'a [u8], buffers: &'a [Bytes<'a>]) -> Option<&'a [u8]>
     requires { length bytes.now ≡ 16 }
     ensures row { IfSome result (λ row. row.now ≡ row_bytes (lent_buffers buffers.now) bytes.now) }
@@ -106,7 +107,7 @@ fn row_of<'a>(bytes: &'a [u8], buffers: &'a [Bytes<'a>]) -> Option<&'a [u8]>
     long_row(&view, &bytes[4..8], buffers)
 }
 
-/// Returns whether row `i` is present.
+/// Returns whether row `i` is present. All rows are if there is no bitmap.
 #[inline(always)]
 fn is_row(present: &Option<Bitmap>, i: usize) -> bool
     ensures { result ≡ is_present present.now i }
@@ -117,8 +118,8 @@ fn is_row(present: &Option<Bitmap>, i: usize) -> bool
     }
 }
 
-/// Appends the bytes of row `i`, if it is present. The error is `Parts` if its view leads to no
-/// row, and `Memory` if an allocation fails.
+/// Appends the bytes of row `i` to `bytes` if the row is present. Fails with `Parts` if its view is
+/// not valid, and with `Memory` if an allocation fails.
 fn append_row(
     part: &Part<'_>,
     present: &Option<Bitmap>,
@@ -147,15 +148,16 @@ fn append_row(
     }
 }
 
-/// Byte strings, one after the other: string `i` lies between end `i` and end `i + 1`.
+/// Byte strings, stored one after the other. String `i` has the bytes from offset `ends[i]` up to
+/// offset `ends[i + 1]`.
 #[derive(Drop)]
 struct Strings {
     ends: Buffer<i64>,
     bytes: Buffer<u8>,
 }
 
-/// Returns the rows of views, with no bytes for a null row. The error is `Parts` if the view of a
-/// present row leads to no row, and `Memory` if an allocation fails.
+/// Copies the rows of all views into byte strings. A null row becomes an empty string. Fails with
+/// `Parts` if the view of a present row is not valid, and with `Memory` if an allocation fails.
 fn gathered(alloc: Global, part: &Part<'_>, present: &Option<Bitmap>) -> Result<Strings, Refused>
     requires present { present.now ≡ present_in part.now }
     requires size { length part.now.u8s.now ≡ 16 * part.now.rows }
@@ -169,7 +171,7 @@ fn gathered(alloc: Global, part: &Part<'_>, present: &Option<Bitmap>) -> Result<
     ends.push_reserved(0);
     for i in 0..part.rows {
         append_row(part, present, i, &mut bytes)?;
-        // No vector of bytes is as long as 2^63.
+        // A vector of bytes is always shorter than 2^63 bytes.
         match i64::try_from(bytes.len()) {
             Ok(end) => ends.push_reserved(end),
             Err(_) => return Err(Refused::Memory),
@@ -181,7 +183,7 @@ fn gathered(alloc: Global, part: &Part<'_>, present: &Option<Bitmap>) -> Result<
     })
 }
 
-/// Returns whether a part has sixteen bytes for each row.
+/// Returns whether a part has exactly sixteen bytes for each row.
 fn has_views(part: &Part<'_>) -> bool
     ensures { IsTrue result ↔ (length part.now.u8s.now ≡ 16 * part.now.rows) }
 {
@@ -191,9 +193,9 @@ fn has_views(part: &Part<'_>) -> bool
     }
 }
 
-/// Returns the array of a part's rows, which are byte strings that views lead to. The error is
-/// `Parts` if there are not sixteen bytes for each row, or if the view of a present row leads to no
-/// row, and `Memory` if an allocation fails.
+/// Returns the array of a part's byte strings, which are stored as views. Fails with `Parts` if
+/// there are not sixteen bytes for each row, if the view of a present row is not valid, or if there
+/// are fewer validity bits than rows. Fails with `Memory` if an allocation fails.
 #[tactic(auto, using(crate::proofs::GatheredRows::arrays))]
 pub fn viewed_strings(alloc: Global, part: &Part<'_>) -> Result<BinaryArray<i64>, Refused>
     ensures made { IfOk result (IsViewed part.now) }
@@ -209,8 +211,8 @@ pub fn viewed_strings(alloc: Global, part: &Part<'_>) -> Result<BinaryArray<i64>
     Ok(array)
 }
 
-/// Returns the array of a part's rows, which are texts that views lead to. The error is that of
-/// `viewed_strings`, or `Parts` if the text of a present row is not UTF-8.
+/// Returns the array of a part's texts, which are stored as views. Fails as `viewed_strings` does,
+/// and with `Parts` if the text of a present row is not UTF-8.
 #[tactic(auto, using(crate::proofs::GatheredRows::arrays))]
 pub fn viewed_texts(alloc: Global, part: &Part<'_>) -> Result<Utf8Array<i64>, Refused>
     ensures made { IfOk result (IsViewed part.now) }

@@ -1,4 +1,4 @@
-//! Numbers of 128 bits that are lent as pairs of words.
+//! Conversion of numbers of 128 bits, which are lent as pairs of 64-bit words.
 #![tactic(auto, using(crate::proofs::SlotLemmas::refusals))]
 
 ghost use Rattle.std.specs.Prelude.{◌≡◌, ◌+◌, ◌*◌, ◌^◌, length, map, IfErr, IfOk};
@@ -13,7 +13,7 @@ use arrow_parts::refused::Refused;
 use polars_arrays_flat::primitive::PrimitiveArray;
 use std::alloc::Global;
 
-/// Returns the number of a low and a high word.
+/// Returns the number of 128 bits whose lower word is `low` and whose upper word is `high`.
 #[inline(always)]
 fn joined(low: u64, high: u64) -> u128
     ensures { result ≡ low + 2 ^ 64 * high }
@@ -21,7 +21,7 @@ fn joined(low: u64, high: u64) -> u128
     u128::from(low) + u128::from(high) * (1 << 64)
 }
 
-/// Returns the signed number with the same bits.
+/// Returns the signed number with the same 128 bits.
 #[inline(always)]
 fn signed(number: u128) -> i128
     ensures { result ≡ signed_wide number }
@@ -33,7 +33,8 @@ fn signed(number: u128) -> i128
     }
 }
 
-/// Returns the numbers of pairs of words; a last word alone makes none. The one error is `Memory`.
+/// Returns the number of each pair of words, the lower word first. A single last word is ignored.
+/// The only error is `Memory`.
 fn numbers_of(alloc: Global, words: &[u64]) -> Result<Vec<u128>, Refused>
     ensures numbers { IfOk result (λ all. all.items ≡ wide_numbers words.now) }
     ensures refused { IfErr result IsMemoryFailure }
@@ -46,7 +47,8 @@ fn numbers_of(alloc: Global, words: &[u64]) -> Result<Vec<u128>, Refused>
     Ok(all)
 }
 
-/// Returns the signed numbers of pairs of words. The one error is `Memory`.
+/// Returns the signed number of each pair of words, the lower word first. A single last word is
+/// ignored. The only error is `Memory`.
 fn signed_of(alloc: Global, words: &[u64]) -> Result<Vec<i128>, Refused>
     ensures numbers { IfOk result (λ all. all.items ≡ map signed_wide (wide_numbers words.now)) }
     ensures refused { IfErr result IsMemoryFailure }
@@ -59,7 +61,7 @@ fn signed_of(alloc: Global, words: &[u64]) -> Result<Vec<i128>, Refused>
     Ok(all)
 }
 
-/// Returns the array of a part's rows, which are unsigned numbers of 128 bits.
+/// Returns the array of a part's unsigned numbers of 128 bits. Fails as `numbers` does.
 pub fn unsigned_numbers(alloc: Global, part: &Part<'_>) -> Result<PrimitiveArray<u128>, Refused>
     ensures made { IfOk result (IsNumbers part.now (wide_numbers part.now.u64s.now)) }
     ensures refused { IfErr result
@@ -69,7 +71,7 @@ pub fn unsigned_numbers(alloc: Global, part: &Part<'_>) -> Result<PrimitiveArray
     numbers(alloc, part, &values)
 }
 
-/// Returns the array of a part's rows, which are signed numbers of 128 bits.
+/// Returns the array of a part's signed numbers of 128 bits. Fails as `numbers` does.
 pub fn signed_numbers(alloc: Global, part: &Part<'_>) -> Result<PrimitiveArray<i128>, Refused>
     ensures made { IfOk result
         (IsNumbers part.now (map signed_wide (wide_numbers part.now.u64s.now))) }
