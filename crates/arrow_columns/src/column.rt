@@ -1,4 +1,4 @@
-//! Columns of borrowed numbers.
+//! Columns that borrow their numbers.
 
 ghost use Rattle.std.specs.Option.{option_copied};
 ghost use Rattle.std.specs.Prelude.{◌≡◌, false, length, IfErr};
@@ -13,8 +13,8 @@ use polars_arrays_flat::validity::{has_bits, null_count};
 use polars_arrays_numbers::native_type::NativeType;
 use std::marker::Model;
 
-/// A column of borrowed numbers, with an optional validity of its own. A contract reads it as an
-/// array that shares its values.
+/// A column that borrows its numbers, and owns its validity, if it has one. In contracts its value
+/// is that of an array that does not own its numbers.
 #[derive(Drop)]
 pub struct Column<'a, T: Copy> {
     values: &'a [T],
@@ -36,7 +36,8 @@ impl<'a, T: Copy> Model for Column<'a, T> {
 }
 
 impl<'a, T: NativeType> Column<'a, T> {
-    /// Creates a column. The error is `Length`, if the validity does not have a bit for each value.
+    /// Creates a column. Fails with `Length` if there is a validity whose length isn't the number
+    /// of values.
     pub fn try_new(values: &'a [T], validity: Option<Bitmap>) -> Result<Column<'a, T>, ArrayError>
         ensures made { OkIff result (HasBits (length values.now) validity)
             (record { values = values.now; validity = validity; owned = false }) }
@@ -62,7 +63,8 @@ impl<'a, T: NativeType> Column<'a, T> {
         self.values
     }
 
-    /// Returns the validity: a bit for each row, 0 if the row is masked, or `None` if no row is.
+    /// Returns the validity, or `None` if it has none. The validity has a bit for each row, 0 if
+    /// the row is null.
     pub fn validity(&self) -> Option<&Bitmap>
         ensures validity { option_copied result ≡ self.now.validity }
         ensures bits { HasBits (length self.now.values) self.now.validity }
@@ -70,7 +72,7 @@ impl<'a, T: NativeType> Column<'a, T> {
         self.validity.as_ref()
     }
 
-    /// Borrows the validity as a mask.
+    /// Borrows the validity as a mask, or returns `None` if the column has no validity.
     pub fn mask(&self) -> Option<BitMask<'_>>
         ensures mask { result ≡ self.now.validity }
         ensures bits { HasBits (length self.now.values) self.now.validity }

@@ -1,4 +1,4 @@
-//! Comparisons of the rows of columns.
+//! Comparisons of the rows of columns, row by row.
 
 ghost use Rattle.std.specs.Prelude.{◌≡◌, length, map, IfOk, MatchResult};
 ghost use Rattle.std.specs.Simd.Lanes.{zip2};
@@ -25,8 +25,8 @@ use polars_compare_leaves::joining::{Relation, join_masks};
 use polars_compare_leaves::row_comparison::RowComparison;
 use std::alloc::Global;
 
-/// A comparison of two rows. For equality and inequality null is equal to null alone; the others
-/// hold only of two present rows.
+/// A comparison of two rows. Under `Equal` and `Unequal`, null is equal to null alone. The other
+/// comparisons are false if one of the two rows is null.
 #[derive(Clone, Copy, PartialEq, Eq, Debug)]
 pub enum Test {
     Equal,
@@ -37,7 +37,8 @@ pub enum Test {
     GreaterOrEqual,
 }
 
-// Compares the stored values of two columns place by place, and joins the results with their masks.
+// Compares the stored values of two columns row by row, and then applies their masks, so that null
+// is equal to null alone. The only error is `Memory`.
 fn join<T: NativeType, E: RowComparison<T>>(
     alloc: Global,
     relation: Relation,
@@ -61,7 +62,7 @@ fn join<T: NativeType, E: RowComparison<T>>(
     join_masks(alloc, relation, &pairs, left.mask(), right.mask())
 }
 
-/// Sets the bits of masked rows to 0.
+/// Sets the bits of all rows to 0 that are null by `mask`. Changes nothing if there is no mask.
 pub fn keep_present(bits: &mut MutableBitmap, mask: Option<BitMask<'_>>)
     requires { HasBits (length bits.old) mask }
     ensures { bits.new ≡ under mask.entry bits.old }
@@ -71,7 +72,8 @@ pub fn keep_present(bits: &mut MutableBitmap, mask: Option<BitMask<'_>>)
     }
 }
 
-// Compares the rows of two columns place by place. Nothing holds of a null.
+// Compares the rows of two columns row by row. Returns 0 for a pair of rows if one of them is null.
+// The only error is `Memory`.
 fn compare_present<T: NativeType, E: RowComparison<T>>(
     alloc: Global,
     comparison: &E,
@@ -90,7 +92,8 @@ fn compare_present<T: NativeType, E: RowComparison<T>>(
     Ok(bits.freeze())
 }
 
-/// Compares the rows of two columns of equal length place by place. The error is `Memory`.
+/// Compares the rows of two columns of equal length. Returns a bit for each pair of rows, 1 if the
+/// comparison is true. The only error is `Memory`.
 pub fn compare<T: NativeType>(
     alloc: Global,
     test: Test,
@@ -112,7 +115,8 @@ pub fn compare<T: NativeType>(
     }
 }
 
-// Compares the rows of a column with a number. Nothing holds of a null.
+// Compares each row of a column with the number `right`. Returns 0 for a null row. The only error
+// is `Memory`.
 fn compare_present_with<T: NativeType, E: RowComparison<T>>(
     alloc: Global,
     comparison: &E,
@@ -130,7 +134,8 @@ fn compare_present_with<T: NativeType, E: RowComparison<T>>(
     Ok(bits.freeze())
 }
 
-// Compares the rows of a column with a number for inequality. A null is unequal to it.
+// Returns a bit for each row of a column, 1 if the row is null or differs from `right`. The only
+// error is `Memory`.
 fn compare_unequal_with<T: NativeType>(
     alloc: Global,
     left: &Column<'_, T>,
@@ -146,7 +151,9 @@ fn compare_unequal_with<T: NativeType>(
     Ok(other)
 }
 
-/// Compares each row of a column with a number. A null is unequal to it. The error is `Memory`.
+/// Compares each row of a column with the number `right`. Returns a bit for each row, 1 if the
+/// comparison is true. A null row is unequal to the number, and all other comparisons with it are
+/// false. The only error is `Memory`.
 pub fn compare_with<T: NativeType>(
     alloc: Global,
     test: Test,

@@ -1,4 +1,4 @@
-//! Counts of the bits of a column's numbers.
+//! Counts of the bits of each number of a column.
 
 ghost use Rattle.std.specs.Prelude.{◌≡◌, ℕ, ℤ, List, Bool, length, map, pos};
 ghost use Rattle.num_traits.specs.Laws.{bit_len};
@@ -15,7 +15,8 @@ use polars_compute_reductions::bit_counts::{
 };
 use polars_compute_reductions::bit_number::BitNumber;
 
-/// A count of some bits of a number.
+/// A way to count bits of a number: all bits that are 1 or 0, or the run of equal bits at the upper
+/// (leading) or lower (trailing) end.
 #[derive(Clone, Copy, PartialEq, Eq, Debug)]
 pub enum Counting {
     Ones,
@@ -26,7 +27,7 @@ pub enum Counting {
     TrailingZeros,
 }
 
-// The counts of the bits of each value.
+// The counts of the bits of each value, as `Computed` numbers.
 #[derive(Drop)]
 struct Counts<'a, T, C> {
     values: &'a [T],
@@ -52,7 +53,7 @@ impl<'a, T: NativeType, C: BitCount<T>> Computed<u32> for Counts<'a, T, C> {
     }
 }
 
-// Writes the count of each row.
+// Writes the count of each value into `out`, also of the values under nulls.
 fn write_counts<T: NativeType, C: BitCount<T> + Drop>(
     count: C,
     column: &Column<'_, T>,
@@ -66,8 +67,9 @@ fn write_counts<T: NativeType, C: BitCount<T> + Drop>(
     write(&Counts { values, count }, out);
 }
 
-/// Writes a count of the bits of each row into a slice of the same length. The validity of the
-/// counts is that of the column, and the count of a masked row is arbitrary.
+/// Counts bits of each row of a column, and writes the counts into `out`, which has the length of
+/// the column. The validity of the counts is that of the column, and the count of a null row is
+/// arbitrary.
 pub fn count_bits<T: BitNumber>(counting: Counting, column: &Column<'_, T>, out: &mut [u32])
     requires { length out.old ≡ length column.now.values }
     ensures { rows_under column.now.validity (number_slots (λ n. pos n) out.new)

@@ -1,4 +1,4 @@
-//! Kernels of columns of numbers that are borrowed from a caller: their values are not copied.
+//! Kernels for columns that borrow their numbers from the caller.
 #![tactic(auto)]
 
 pub mod column;

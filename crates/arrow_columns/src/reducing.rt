@@ -1,4 +1,4 @@
-//! Columns reduced to a number.
+//! Reductions of a column to one number.
 
 ghost use Rattle.std.specs.Prelude.{◌≡◌, option_map};
 ghost use Rattle.num_traits.specs.Laws.{bit_len};
@@ -16,7 +16,7 @@ use polars_compute_reductions::fold::fold_under;
 use polars_compute_reductions::operator::Operator;
 use polars_compute_reductions::sum::{Sum, WrappingAdd};
 
-// Folds the present rows, or returns `None` if no row is present.
+// Folds the numbers of the present rows with an operator, or returns `None` if no row is present.
 fn reduce<T: NativeType, O: Operator<T>>(operator: &O, column: &Column<'_, T>) -> Option<T>
     ensures { option_map T.value result ≡ folded_if_any O.joined (O.neutral operator.now)
         (number_rows T.value column.now) }
@@ -36,7 +36,7 @@ pub fn sum<T: NativeType + WrappingAdd + Zero>(column: &Column<'_, T>) -> Option
     reduce(&Sum, column)
 }
 
-/// An operator that joins the bits of numbers.
+/// An operator that joins two numbers bit by bit.
 #[derive(Clone, Copy, PartialEq, Eq, Debug)]
 pub enum BitOperator {
     And,
@@ -44,7 +44,8 @@ pub enum BitOperator {
     Xor,
 }
 
-/// Joins the bits of the present rows at each place, or returns `None` if no row is present.
+/// Joins the numbers of the present rows bit by bit, or returns `None` if no row is present. For
+/// example, `And` of the rows 6, null and 3 is 2.
 pub fn reduce_bits<T: BitNumber>(operator: BitOperator, column: &Column<'_, T>) -> Option<T>
     ensures { option_map (λ x. number_bits (bit_len T.width) (T.value x)) result
         ≡ reduced (joins_bits operator) (bit_len T.width) (number_rows T.value column.now) }
