@@ -1,4 +1,4 @@
-//! The bits and the count of a comparison.
+//! The result of a comparison of two arrays: bits, and a count of comparisons.
 
 ghost use Rattle.std.specs.Prelude.{◌≡◌, length, slice_index_or, OnErr, OnOk, IfErr, IfOk};
 ghost use Rattle.polars_arrays_nested.specs.GoodParts.{IsGood};
@@ -18,15 +18,16 @@ use polars_arrays_numbers::steps::Steps;
 use polars_compare_nested::kernels::array_tot_eq_missing_kernel_with_steps;
 use std::alloc::Global;
 
-/// The bits of equal rows, and the number of comparisons of leaves, at most the greatest `u64`.
+/// The result of a comparison of two arrays. `bits` has a bit for each row, 1 if the two rows are
+/// equal. `comparisons` is the number of comparisons of leaves, or `u64::MAX` if there were more.
 #[derive(Drop)]
 pub struct Compared {
     pub bits: Bitmap,
     pub comparisons: u64,
 }
 
-/// Compares two arrays of one type and length, row by row, with at most one comparison for each
-/// leaf slot of the left array. The one error is `Memory`.
+/// Compares two arrays of the same type and length, row by row, with at most one comparison for
+/// each leaf slot of the left array. Null is equal to null alone. The only error is `Memory`.
 pub fn compare(alloc: Global, left: &AnyArray, right: &AnyArray) -> Result<Compared, Refused>
     requires left_good { IsGood left.now }
     requires right_good { IsGood right.now }
@@ -43,9 +44,9 @@ pub fn compare(alloc: Global, left: &AnyArray, right: &AnyArray) -> Result<Compa
     })
 }
 
-/// Writes the bits into words, from the lowest bit of the first word on, with zeros after them,
-/// and the number of comparisons into the first word of `comparisons`. The error is `Room` if there
-/// are too few words; they are then unchanged.
+/// Writes the bits of the rows into `out`, from the lowest bit of the first word on, and sets all
+/// later bits to 0. Sets `comparisons[0]` to the number of comparisons. Fails with `Room` if `out`
+/// has fewer bits than rows or `comparisons` is empty. Both slices are then unchanged.
 pub fn write(compared: &Compared, out: &mut [u64], comparisons: &mut [u64]) -> Result<(), Refused>
     ensures bits { OnOk result (AreWritten compared.now.bits out.new) }
     ensures count { OnOk result (slice_index_or comparisons.new 0 0 ≡ compared.now.comparisons) }

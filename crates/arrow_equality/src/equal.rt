@@ -1,4 +1,4 @@
-//! Rows of lent arrays that are the same.
+//! Equality of the rows of two lent arrays.
 
 ghost use Rattle.std.specs.Prelude.{◌≡◌, IfErr, IfOk, OnErr, OnOk};
 ghost use Rattle.polars_arrays_nested.specs.GoodParts.{IsGood};
@@ -15,8 +15,8 @@ use arrow_parts::refused::Refused;
 use polars_arrays_nested::any_array::AnyArray;
 use std::alloc::Global;
 
-/// Compares two arrays, row by row. The error is `Types` if they are not of one type and length,
-/// and `Memory` if an allocation fails.
+/// Compares two arrays, row by row. Fails with `Types` if they differ in type or in length, and
+/// with `Memory` if an allocation fails.
 fn compare_arrays(alloc: Global, left: &AnyArray, right: &AnyArray) -> Result<Compared, Refused>
     requires left_good { IsGood left.now }
     requires right_good { IsGood right.now }
@@ -32,7 +32,9 @@ fn compare_arrays(alloc: Global, left: &AnyArray, right: &AnyArray) -> Result<Co
     compare(alloc, left, right)
 }
 
-/// Compares two lent arrays, row by row.
+/// Builds two lent arrays from their parts, and compares them row by row. Fails with `Parts` if the
+/// parts make no array, with `Types` if the two arrays differ in type or in length, and with
+/// `Memory` if an allocation fails.
 fn compare_parts(alloc: Global, left: &[Part<'_>], right: &[Part<'_>]) -> Result<Compared, Refused>
     ensures compared { IfOk result
         (IsComparison (rows_of_parts left.now) (rows_of_parts right.now)) }
@@ -44,13 +46,14 @@ fn compare_parts(alloc: Global, left: &[Part<'_>], right: &[Part<'_>]) -> Result
     compare_arrays(alloc, &left, &right)
 }
 
-/// Sets bit `i` of `out` if rows `i` of two lent arrays are the same tree, where null is the same
-/// as null alone, and all bits past the last row to 0. The first of `comparisons` becomes the
-/// number of leaves that were compared, at most the greatest `u64`.
+/// Compares two lent arrays, row by row. Sets bit `i` of `out` if the two rows `i` are equal as
+/// trees, and sets all bits past the last row to 0. Null is equal to null alone. Sets
+/// `comparisons[0]` to the number of leaves that were compared, or to `u64::MAX` if there were
+/// more.
 ///
-/// On an error both slices are unchanged. It is `Parts` if one of the arrays cannot be made,
-/// `Types` if the two are not of one type and length, `Room` if `out` has fewer bits than rows or
-/// `comparisons` is empty, and `Memory` if an allocation fails.
+/// Fails with `Parts` if the parts of an array make no array, with `Types` if the arrays differ in
+/// type or in length, with `Room` if `out` has fewer bits than rows or `comparisons` is empty, and
+/// with `Memory` if an allocation fails. Both slices are then unchanged.
 pub fn equal_rows(
     alloc: Global,
     left: &[Part<'_>],

@@ -1,4 +1,4 @@
-//! The kernel of missing equality for lent arrays of any type, and their null rows.
+//! Kernels for lent arrays of any type: missing equality, and the rows that are null.
 #![tactic(auto, using(crate::proofs::Comparisons::comparisons))]
 
 mod compared;

@@ -1,4 +1,4 @@
-//! Rows of lent arrays that are null.
+//! Null rows of lent arrays.
 #![tactic(auto, using(crate::proofs::NullRows::nulls))]
 
 ghost use Rattle.std.specs.Prelude.{◌≡◌, length, IfErr, IfOk, MatchResult, OnErr, OnOk};
@@ -21,7 +21,7 @@ use polars_arrays_bits::error::ComputeError;
 use polars_arrays_nested::any_array::AnyArray;
 use std::alloc::Global;
 
-/// Returns a bit for each row of an array, 1 if the row is null. The error is `Memory`.
+/// Returns a bit for each row of an array, 1 if the row is null. The only error is `Memory`.
 fn nulls_of(alloc: Global, array: &AnyArray) -> Result<Bitmap, ComputeError>
     requires { IsGood array.now }
     ensures { MatchResult result
@@ -35,7 +35,8 @@ fn nulls_of(alloc: Global, array: &AnyArray) -> Result<Bitmap, ComputeError>
     Ok(bits.freeze())
 }
 
-/// Returns a bit for each row of a lent array, 1 if the row is null.
+/// Builds a lent array from its parts, and returns a bit for each row, 1 if the row is null. Fails
+/// with `Parts` if the parts make no array, and with `Memory` if an allocation fails.
 fn part_nulls(alloc: Global, parts: &[Part<'_>]) -> Result<Bitmap, Refused>
     ensures bits { IfOk result (λ bits. bits
         ≡ null_bits (rows_of_parts parts.now).row (rows_of_parts parts.now).len) }
@@ -47,11 +48,11 @@ fn part_nulls(alloc: Global, parts: &[Part<'_>]) -> Result<Bitmap, Refused>
     Ok(bits)
 }
 
-/// Sets bit `i` of `out` if row `i` of a lent array is null, and all bits past the last row to 0.
-/// `count` becomes the number of null rows.
+/// Sets bit `i` of `out` if row `i` of a lent array is null, and sets all bits past the last row to
+/// 0. Sets `count` to the number of null rows.
 ///
-/// On an error both are unchanged. It is `Parts` if the array cannot be made, `Room` if `out` has
-/// fewer bits than rows, and `Memory` if an allocation fails.
+/// Fails with `Parts` if the parts make no array, with `Room` if `out` has fewer bits than rows,
+/// and with `Memory` if an allocation fails. `out` and `count` are then unchanged.
 pub fn null_rows(
     alloc: Global,
     parts: &[Part<'_>],
