@@ -19,29 +19,31 @@ use polars_arrays_numbers::native_type::NativeType;
 use polars_compute_reductions::fold::fold_under;
 use polars_compute_reductions::operator::Operator;
 
-// An operator that folds numbers to the best of them and of a first one.
+// An operator that returns the better of two numbers, the lesser or the greater one. Its folds
+// start with a given number.
 trait BestFrom<T: NativeType>: Operator<T> + Drop {
-    // The test of whether a row is better than another.
+    // The relation "the first row is better than the second".
     ghost better: { Row → Row → Bool };
 
-    // Better than x is better than all that are not better than x.
+    // States that at most one of two rows is better than the other. Moreover, if `y` is better than
+    // `x`, and `z` is not, then `y` is better than `z`.
     ghost preference_law: { Prefers Int better };
 
-    /// Creates the operator whose folds begin with `first`.
+    /// Creates the operator. Its folds start with `first`.
     fn from(first: T) -> Self
         ensures { Self.neutral result ≡ T.value first };
 
-    // Two numbers are joined to the better one.
+    // States that the operator returns the better of two numbers.
     ghost best_law: { (m n : ℤ) → Self.Operator.joined m n ≡ best_of better m n };
 }
 
-// A fold of numbers to the least of them and of a first one.
+// The operator that returns the lesser of two numbers. Its folds start with `first`.
 #[derive(Drop)]
 struct LeastFrom<T: NativeType> {
     first: T,
 }
 
-// A fold of numbers to the greatest of them and of a first one.
+// The operator that returns the greater of two numbers. Its folds start with `first`.
 #[derive(Drop)]
 struct GreatestFrom<T: NativeType> {
     first: T,
@@ -133,7 +135,7 @@ impl<T: NativeType> BestFrom<T> for GreatestFrom<T> {
     }
 }
 
-// Returns the first present one of `n` rows.
+// Returns the index of the first of `n` rows that is present, or `None` if no row is present.
 fn first_present(present: Option<&Bitmap>, n: usize) -> Option<usize>
     requires { HasBits n (option_copied present) }
     ensures { MatchOption result
@@ -148,7 +150,7 @@ fn first_present(present: Option<&Bitmap>, n: usize) -> Option<usize>
     None
 }
 
-// Returns the best of the present numbers, or `None` if none is present.
+// Returns the best of the present numbers by operator `B`, or `None` if no row is present.
 fn best<T: NativeType, B: BestFrom<T>>(column: &Column<'_, T>) -> Option<T>
     ensures { MatchOption result
         (NonePresent (number_rows T.value column.now))

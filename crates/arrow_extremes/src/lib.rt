@@ -1,4 +1,4 @@
-//! The least and the greatest number of a column of borrowed numbers.
+//! The least and the greatest number of a column that borrows its numbers.
 #![tactic(auto)]
 
 pub mod extremes;
