@@ -1,4 +1,4 @@
-//! Bits of lent bytes, copied into bitmaps.
+//! Conversion of lent bits to bitmaps. The bits are copied.
 
 ghost use Rattle.std.specs.Prelude.{◌≡◌, ◌+◌, ◌*◌, ◌≤◌, length, IfOk, IfErr};
 ghost use Rattle.arrow_parts.specs.ByteBits.{HoldBits, HoldPresence, byte_window, presence};
@@ -11,7 +11,8 @@ use polars_arrays_bits::buffer::Buffer;
 use polars_arrays_words::packing::put;
 use std::alloc::Global;
 
-/// Returns the word of the `count` bytes from byte `at` on, the first one lowest, with zeros above.
+/// Returns a word made of the `count` bytes from index `at` on. The first byte is the lowest one,
+/// and the bits above the last one are 0.
 fn few_bytes(bytes: &[u8], at: usize, count: usize) -> u64
     requires few { count ≤ 8 }
     requires within { at + count ≤ length bytes.now }
@@ -24,7 +25,8 @@ fn few_bytes(bytes: &[u8], at: usize, count: usize) -> u64
     word
 }
 
-/// Returns words that hold the bits of bytes, with zeros above the last byte.
+/// Copies bytes into words of 8 bytes each, the first byte lowest. The bits of the last word past
+/// the last byte are 0. The only error is `Memory`.
 fn words_of(alloc: Global, bytes: &[u8]) -> Result<Vec<u64>, Refused>
     ensures room { IfOk result (λ words. length bytes.now ≤ 8 * length words.items) }
     ensures bits { IfOk result (λ words. HaveBytes bytes.now (length bytes.now) words.items) }
@@ -43,10 +45,10 @@ fn words_of(alloc: Global, bytes: &[u8]) -> Result<Vec<u64>, Refused>
     Ok(words)
 }
 
-/// Returns the `n` bits from bit `at` of bytes on, which need not begin a byte. Only the bytes that
-/// hold these bits are read.
+/// Returns the `n` bits of `bytes` from bit `at` on. Bit 0 is the lowest bit of the first byte.
+/// Only the bytes that have these bits are read and copied.
 ///
-/// The error is `Parts` if a bit lies past the last byte, and `Memory` if an allocation fails.
+/// Fails with `Parts` if a bit lies past the last byte, and with `Memory` if an allocation fails.
 pub fn bits_of(alloc: Global, bytes: &[u8], at: usize, n: usize) -> Result<Bitmap, Refused>
     ensures held { IfOk result (λ _. HoldBits at n bytes.now) }
     ensures bits { IfOk result (λ bits. bits ≡ byte_window at n bytes.now) }
@@ -65,10 +67,10 @@ pub fn bits_of(alloc: Global, bytes: &[u8], at: usize, n: usize) -> Result<Bitma
     Ok(Bitmap::from_words(Buffer::from_vec(words), at % 8, n))
 }
 
-/// Returns which of `n` rows are present: a bit for each from bit `at` of bytes on, or None if
-/// there are no bytes, so that all rows are.
+/// Returns the validity of `n` rows, the bits of `bytes` from bit `at` on: a row is present if its
+/// bit is 1. Returns `None` if `bytes` is empty, which means that all rows are present.
 ///
-/// The error is `Parts` if a bit lies past the last byte, and `Memory` if an allocation fails.
+/// Fails with `Parts` if a bit lies past the last byte, and with `Memory` if an allocation fails.
 pub fn validity(alloc: Global, bytes: &[u8], at: usize, n: usize) -> Result<Option<Bitmap>, Refused>
     ensures held { IfOk result (λ _. HoldPresence at n bytes.now) }
     ensures bits { IfOk result (λ bits. bits ≡ presence at n bytes.now) }

@@ -1,5 +1,5 @@
-//! Arrays that another program lends, as parts in the layout of the Arrow format: the rows that
-//! parts stand for, and bits that are read from bytes and written into words.
+//! Arrays that another program lends, as a list of parts in the layout of the Arrow format. Bits
+//! are read from lent bytes, and written into lent words.
 #![tactic(auto)]
 
 pub mod bits;

@@ -1,15 +1,15 @@
-//! The parts of lent arrays.
+//! The parts of lent arrays, and their kinds.
 
 ghost use Rattle.std.specs.Prelude.{◌≡◌};
 ghost use Rattle.arrow_parts.specs.Kinds.{kind_number};
 
-/// Bytes that another program lends.
+/// Lent bytes, such as a buffer of a view array.
 #[repr(C)]
 pub struct Bytes<'a> {
     pub bytes: &'a [u8],
 }
 
-/// One array of a tree of arrays. Its slices are lent, and those that its kind does not use are
+/// One array of a tree of nested arrays. Its slices are lent. Slices that its kind does not use are
 /// empty.
 ///
 /// The parts of a tree come in pre-order: a list before its items, a struct before its columns in
@@ -19,20 +19,22 @@ pub struct Bytes<'a> {
 pub struct Part<'a> {
     /// The number of a `PartKind`.
     pub kind: u32,
-    /// The number of arrays directly inside: 1 for lists and dictionaries, the columns of a struct.
+    /// The number of child arrays: 1 for lists and dictionaries, the number of columns for a
+    /// struct. The children of other kinds are ignored.
     pub children: u32,
     /// The number of rows.
     pub rows: usize,
-    /// The number of bytes or items of each row, for kinds whose rows are of one size.
+    /// The number of bytes or items in each row of a `FixedSizeBinary` or `FixedSizeList`.
     pub width: usize,
-    /// The bit of their first byte at which `present`, and the truth values in `u8s`, begin.
+    /// The index of the bit at which the rows begin in `present`, and in `u8s` if that has truth
+    /// values.
     pub first_bit: usize,
-    /// The offset, of strings or lists, to which the first lent byte or item belongs: the offset
-    /// `o` is place `o - base` among those that are lent.
+    /// The offset of strings or lists at which the lent bytes or items begin. An offset `o` is
+    /// index `o - base` of the lent bytes or items.
     pub base: usize,
-    /// The name of a struct's column, in UTF-8.
+    /// The name of the part in UTF-8, if it is a column of a struct.
     pub name: &'a [u8],
-    /// A bit for each row, 1 if the row is present; empty if all rows are.
+    /// The validity: a bit for each row, 1 if the row is present. Empty if all rows are present.
     pub present: &'a [u8],
     /// Numbers or keys of 8 bits.
     pub i8s: &'a [i8],
@@ -50,16 +52,16 @@ pub struct Part<'a> {
     pub u32s: &'a [u32],
     /// Numbers or keys of 64 bits, or the low and the high word of each number of 128 bits.
     pub u64s: &'a [u64],
-    /// The buffers in which the longer rows of views lie.
+    /// The buffers with the rows of views that are longer than 12 bytes.
     pub buffers: &'a [Bytes<'a>],
 }
 
-/// The kind of the rows of a part, with its number in C.
+/// The kind of a part: its type, and the layout of its rows. The kinds have the numbers 1 to 31.
 #[derive(Clone, Copy, PartialEq, Eq, Debug)]
 pub enum PartKind {
     /// Number 1.
     Null,
-    /// Number 2, and so on.
+    /// Number 2. The following kinds have the following numbers.
     Boolean,
     Int8,
     Int16,
@@ -94,7 +96,7 @@ pub enum PartKind {
 }
 
 impl PartKind {
-    /// Returns the kind with this number, or None if there is none.
+    /// Returns the kind with number `number`, or `None` unless it is a number from 1 to 31.
     pub fn of(number: u32) -> Option<PartKind>
         ensures { result ≡ kind_number number }
     {

@@ -1,4 +1,4 @@
-//! Reasons why lent arrays have no result.
+//! Reasons why a kernel for lent arrays fails.
 
 ghost use Rattle.std.specs.Prelude.{◌≡◌};
 ghost use Rattle.polars_arrays_bits.specs.Errors.{IsMemory};
@@ -7,14 +7,14 @@ ghost use Rattle.arrow_parts.specs.declared.refused.Refused.TheVariants.{Memory,
 use polars_arrays_bits::error::{ArrayError, ComputeError};
 use std::alloc::{AllocError, AllocFailed};
 
-/// A reason why lent arrays have no result.
+/// A reason why a kernel for lent arrays fails.
 #[derive(Clone, Copy, PartialEq, Eq, Debug)]
 pub enum Refused {
-    /// The parts make no array.
+    /// The parts do not make an array.
     Parts,
-    /// Two arrays are not of one type and length.
+    /// The two arrays differ in type or in length.
     Types,
-    /// The caller's memory has no room for the result.
+    /// The caller's memory is too small for the result.
     Room,
     /// An allocation failed.
     Memory,

@@ -1,4 +1,4 @@
-//! Bits that are written into the caller's words.
+//! Bits that are written into the caller's memory.
 
 ghost use Rattle.std.specs.Prelude.{◌≡◌, ◌≤◌, ◌*◌, length, slice_index_or, false, IfErr, OnOk};
 ghost use Rattle.std.specs.Prelude.{OnErr};
@@ -10,7 +10,7 @@ use crate::refused::Refused;
 use polars_arrays_bits::bit_mask::BitMask;
 use polars_arrays_bits::bitmap::Bitmap;
 
-/// Returns word `k` of bits, with zeros past the last bit.
+/// Returns the bits `64 * k` to `64 * k + 63` of a mask as a word. Bits past the end are 0.
 fn word_at(mask: &BitMask<'_>, k: usize) -> u64
     ensures { IsWord (λ p. slice_index_or mask.now p false) k result }
 {
@@ -24,10 +24,10 @@ fn word_at(mask: &BitMask<'_>, k: usize) -> u64
     }
 }
 
-/// Writes bits into words, from the lowest bit of the first word on. All bits of the words that lie
-/// past the last bit are set to 0.
+/// Writes bits into `out`, from the lowest bit of the first word on. Sets all later bits of `out`
+/// to 0.
 ///
-/// The error is `Room` if the words have fewer bits; they are then unchanged.
+/// Fails with `Room` if `out` has fewer bits than `bits`. It is then unchanged.
 pub fn write_bits(bits: &Bitmap, out: &mut [u64]) -> Result<(), Refused>
     ensures written { OnOk result (AreWritten bits.now out.new) }
     ensures refused { IfErr result (λ e. e ≡ Room) }
