@@ -1,4 +1,4 @@
-//! Rows of columns that are appended to states.
+//! Rows of columns that are appended to states of distinct values.
 
 ghost use Rattle.std.specs.Option.{option_copied};
 ghost use Rattle.std.specs.Prelude.{◌≡◌, ◌↔◌, ◌<◌, ◌≤◌, ◌*◌, ◌≤ℤ◌, ℤ, false, length, IsTrue};
@@ -19,7 +19,8 @@ use polars_arrays_numbers::native_type::greatest_value;
 use polars_compute_slots::number::UniqueNumber;
 use polars_compute_slots::span::Span;
 
-// Returns whether a row is null or a number of a range. It is compiled without a branch.
+// Returns whether a row is null or its number lies in the range `span`. The two facts are joined
+// with `|`, so that no branch is needed.
 #[inline(always)]
 fn accepts_row<T: UniqueNumber>(span: &Span<T>, present: bool, number: T) -> bool
     ensures { result ≡ is_within (numbers_from (T.value span.now.least) span.now.count)
@@ -28,8 +29,8 @@ fn accepts_row<T: UniqueNumber>(span: &Span<T>, present: bool, number: T) -> boo
     !present | span.holds(number)
 }
 
-// Returns whether a number lies between two others or is one of them. It is compiled without a
-// branch.
+// Returns whether `least <= number <= greatest`. The two comparisons are joined with `&`, so that
+// no branch is needed.
 #[inline(always)]
 fn lies_between<T: UniqueNumber>(least: T, greatest: T, number: T) -> bool
     ensures between { IsTrue result
@@ -41,7 +42,7 @@ fn lies_between<T: UniqueNumber>(least: T, greatest: T, number: T) -> bool
     LessOrEqual.compare(least, number) & LessOrEqual.compare(number, greatest)
 }
 
-// Returns the last number of a range, or of the type if the range goes on past it.
+// Returns the last number of the range that type `T` can represent.
 fn last_number<T: UniqueNumber>(span: &Span<T>) -> T
     requires { 0 < span.now.count }
     ensures { (m : ℤ) → m ≤ℤ T.high → (HasSlot (T.value span.now.least) span.now.count (Int m)
@@ -56,9 +57,9 @@ fn last_number<T: UniqueNumber>(span: &Span<T>) -> T
     }
 }
 
-// Returns whether each number lies in a range, present or not. Its loop has no branch, looks at no
-// validity and compares numbers as wide as they are, so that it takes a small part of the time of
-// `accepts_rows`.
+// Returns whether every stored number lies in the range, also those under nulls. This is much
+// faster than `accepts_rows`: the loop has no branch, doesn't read the validity, and compares
+// numbers of type `T` instead of `i128`.
 fn holds_all<T: UniqueNumber>(span: &Span<T>, numbers: &[T]) -> bool
     requires { 0 < span.now.count }
     ensures { result ≡ are_within (numbers_from (T.value span.now.least) span.now.count)
@@ -73,7 +74,8 @@ fn holds_all<T: UniqueNumber>(span: &Span<T>, numbers: &[T]) -> bool
     all
 }
 
-// Returns whether each row is null or a number of a range. It looks at one row after another.
+// Returns whether every row is null or its number lies in the range. Stops at the first row for
+// which this is false.
 fn accepts_rows<T: UniqueNumber>(span: &Span<T>, numbers: &[T], validity: Option<&Bitmap>) -> bool
     requires { HasBits (length numbers.now) (option_copied validity) }
     ensures { result ≡ are_within (numbers_from (T.value span.now.least) span.now.count)
@@ -87,7 +89,9 @@ fn accepts_rows<T: UniqueNumber>(span: &Span<T>, numbers: &[T], validity: Option
     true
 }
 
-// Returns whether each row is null or a number of a range.
+// Returns whether every row is null or its number lies in the range. Tries `holds_all` first,
+// unless the range is empty. `accepts_rows` is needed only if a stored number lies outside, such as
+// one under a null.
 fn accepts<T: UniqueNumber>(span: &Span<T>, numbers: &[T], validity: Option<&Bitmap>) -> bool
     requires { HasBits (length numbers.now) (option_copied validity) }
     ensures { result ≡ are_within (numbers_from (T.value span.now.least) span.now.count)
@@ -99,10 +103,11 @@ fn accepts<T: UniqueNumber>(span: &Span<T>, numbers: &[T], validity: Option<&Bit
     holds_all(span, numbers) || accepts_rows(span, numbers, validity)
 }
 
-/// Appends the rows of a column to a state of the numbers of a range: sets the bits of the numbers
-/// that are present, and the flag if a row is null.
+/// Appends the rows of a column to a state of distinct values. The state has a bit in `words` for
+/// each number of the range `span`, and `flag`, which is not 0 if a null was seen. Sets the bits of
+/// all present numbers, and sets the flag to 1 if a row is null.
 ///
-/// Returns whether each row is null or a number of the range. If one is not, nothing is changed.
+/// Returns whether every row is null or its number lies in the range. If not, nothing is changed.
 pub fn append<T: UniqueNumber>(
     column: &Column<'_, T>,
     span: &Span<T>,

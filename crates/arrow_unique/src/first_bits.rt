@@ -1,9 +1,9 @@
-//! The bits of words that belong to a state.
+//! The bits of a state, as a source of bits.
 
 use polars_arrays_words::source::{Aligned, BitSource};
 use polars_arrays_words::words::{WORD_BITS, low_bits};
 
-/// The first `count` bits of words, and zeros after them.
+/// The first `count` bits of `words`. All later bits read as 0.
 #[derive(Drop)]
 pub struct FirstBits<'a> {
     pub words: &'a [u64],

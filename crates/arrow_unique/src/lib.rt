@@ -1,5 +1,5 @@
-//! States of distinct values in a caller's memory: a bit for each number of a range, and a flag for
-//! null.
+//! States of distinct values in the caller's memory. A state has a bit for each number of a range,
+//! and a flag for null.
 #![tactic(auto)]
 
 pub mod appending;

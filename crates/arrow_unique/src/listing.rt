@@ -1,4 +1,4 @@
-//! Contents of states: how many values were seen, and which.
+//! Queries of states: how many values were seen, and which ones.
 
 ghost use Rattle.std.specs.Prelude.{◌≡◌, ◌+◌, ◌<◌, ◌≤◌, ◌*◌, ◌^◌, ◌+ℤ◌, ◌≤ℤ◌, ◌<ℤ◌, ◌++◌, ℕ, ℤ};
 ghost use Rattle.std.specs.Prelude.{pos, length, map, drop};
@@ -10,7 +10,8 @@ use crate::first_bits::FirstBits;
 use polars_arrays_words::source::{BitSource, count_window};
 use polars_arrays_words::words::WORD_BITS;
 
-/// Counts the numbers that were seen, of `count`.
+/// Returns how many of the first `count` bits of `words` are 1: the number of distinct numbers that
+/// a state of `count` numbers has seen. Null is not counted.
 pub fn count_seen(count: usize, words: &[u64]) -> usize
     ensures { (least : ℤ) (flag : ℕ) → result
         ≡ length (set_of (state_in least count words.now flag)) }
@@ -18,7 +19,8 @@ pub fn count_seen(count: usize, words: &[u64]) -> usize
     count_window(words, 0, count)
 }
 
-/// Counts the numbers that were seen, of `count`, and null if one was.
+/// Returns the number of distinct rows that a state of `count` numbers has seen. Null counts as one
+/// row if `flag` is not 0.
 pub fn count_finalised(count: usize, words: &[u64], flag: u64) -> usize
     requires { count + 1 < 2 ^ 64 }
     ensures { (least : ℤ) (put : ℤ → Row)
@@ -27,7 +29,7 @@ pub fn count_finalised(count: usize, words: &[u64], flag: u64) -> usize
     count_seen(count, words) + usize::from(flag != 0)
 }
 
-// Returns the lower 64 bits, in two's complement, of the number that lies `i` above `least`.
+// Returns the lower 64 bits of `least + i`, as a number of 128 bits in two's complement.
 #[inline(always)]
 fn low_word_at(least: i128, i: usize) -> u64
     requires { (least +ℤ pos i) <ℤ pos (2 ^ 127) }
@@ -37,8 +39,9 @@ fn low_word_at(least: i128, i: usize) -> u64
     (number.cast_unsigned() & 0xFFFF_FFFF_FFFF_FFFF) as u64
 }
 
-/// Writes to `out`, ascending, those of the `count` numbers from `least` on that were seen. A
-/// number is written as the lower 64 bits of its two's complement.
+/// Writes the numbers that a state has seen to `out`, in ascending order. The range of the state is
+/// the `count` numbers from `least` on. Each number is written as the lower 64 bits of its two's
+/// complement. The rest of `out` is unchanged.
 pub fn list(least: i128, count: usize, words: &[u64], out: &mut [u64])
     requires numbers { (least +ℤ pos count) ≤ℤ pos (2 ^ 127) }
     requires bits { count ≤ 64 * length words.now }

@@ -1,4 +1,4 @@
-//! Bits of states that are set for rows.
+//! Rows that are marked in a state: the bits of their numbers are set.
 
 ghost use Rattle.std.specs.Option.{option_copied};
 ghost use Rattle.std.specs.Prelude.{◌≡◌, ◌<◌, ◌≤◌, ◌+◌, ◌*◌, [], ◌∷◌, ℕ, true, false, length};
@@ -15,7 +15,7 @@ use polars_arrays_words::words::WORD_BITS;
 use polars_compute_slots::number::UniqueNumber;
 use polars_compute_slots::span::Span;
 
-// Sets bit `p`.
+// Sets bit `p` of `words` to 1.
 #[inline(always)]
 fn set_bit(words: &mut [u64], p: usize)
     requires { p < 64 * length words.old }
@@ -25,7 +25,7 @@ fn set_bit(words: &mut [u64], p: usize)
     words[p / WORD_BITS] = word | 1u64 << (p % WORD_BITS);
 }
 
-// Sets the bit of a number.
+// Sets the bit of a number of the range `span`.
 #[inline(always)]
 fn mark_number<T: UniqueNumber>(words: &mut [u64], span: &Span<T>, number: T)
     requires fit { HasSlot (T.value span.now.least) span.now.count (Int (T.value number)) }
@@ -36,7 +36,7 @@ fn mark_number<T: UniqueNumber>(words: &mut [u64], span: &Span<T>, number: T)
     set_bit(words, span.slot(number));
 }
 
-// Sets the bits of numbers.
+// Sets the bits of all numbers in the slice.
 #[inline(always)]
 fn mark_all<T: UniqueNumber>(words: &mut [u64], span: &Span<T>, numbers: &[T])
     requires fit { HaveSlots (T.value span.now.least) span.now.count
@@ -50,8 +50,8 @@ fn mark_all<T: UniqueNumber>(words: &mut [u64], span: &Span<T>, numbers: &[T])
     }
 }
 
-// Sets the bits of the present rows among up to 64. A row is present if its bit of a word is 1: the
-// loop goes from one such bit to the next.
+// Sets the bits of the present rows among at most 64 rows. Row `i` is present if bit `i` of
+// `present` is 1. The loop visits only present rows.
 #[inline(always)]
 fn mark_some<T: UniqueNumber>(words: &mut [u64], span: &Span<T>, numbers: &[T], present: u64)
     requires few { length numbers.now ≤ 64 }
@@ -72,7 +72,8 @@ fn mark_some<T: UniqueNumber>(words: &mut [u64], span: &Span<T>, numbers: &[T], 
     }
 }
 
-// Sets the bits of the present rows among up to 64. A row is present if its bit of a word is 1.
+// Sets the bits of the present rows among at most 64 rows. Row `i` is present if bit `i` of
+// `present` is 1. If all 64 rows are present, no bit of `present` is examined.
 #[inline(always)]
 fn mark_word<T: UniqueNumber>(words: &mut [u64], span: &Span<T>, numbers: &[T], present: u64)
     requires few { length numbers.now ≤ 64 }
@@ -92,7 +93,7 @@ fn mark_word<T: UniqueNumber>(words: &mut [u64], span: &Span<T>, numbers: &[T], 
     }
 }
 
-// Sets the bits of the present rows, 64 rows at a time. A row is present if its bit is 1.
+// Sets the bits of all rows that are present by `mask`, in blocks of 64 rows.
 fn mark_masked<T: UniqueNumber>(
     words: &mut [u64],
     span: &Span<T>,
@@ -121,7 +122,8 @@ fn mark_masked<T: UniqueNumber>(
     );
 }
 
-/// Sets the bits of the numbers that are present. What is stored under a null is not looked at.
+/// Sets the bits of all present numbers. Numbers stored under nulls are ignored. All rows are
+/// present if `validity` is `None`.
 pub fn mark_rows<T: UniqueNumber>(
     words: &mut [u64],
     span: &Span<T>,

@@ -1,4 +1,4 @@
-//! States that are merged into others of the same range.
+//! States that are merged into another state of the same range.
 
 ghost use Rattle.std.specs.Prelude.{◌≤◌, ◌*◌, ℤ, length};
 ghost use Rattle.arrow_unique.specs.Memory.{AreJoined, Holds, state_in};
@@ -9,7 +9,7 @@ use polars_arrays_words::changes::{JoinedWith, WordChange, change_inner_words, c
 use polars_arrays_words::operators::Or;
 use polars_arrays_words::words::WORD_BITS;
 
-// Sets the bits that are set among the first bits of other words.
+// Sets bit `p` of `words` if bit `p` of `others` is set, for all `p` below `count`.
 fn join_words(words: &mut [u64], others: &[u64], count: usize)
     requires { count ≤ 64 * length words.old }
     ensures { AreJoined count others.now words.old words.new }
@@ -28,9 +28,9 @@ fn join_words(words: &mut [u64], others: &[u64], count: usize)
     change_words(words, &change, inner, to);
 }
 
-/// Merges a state, `others` and `other_flag`, into `words` and `flag`. Both are states of the same
-/// `count` numbers: a bit is set then if either had seen its number, and the flag if either had
-/// seen a null.
+/// Merges the state in `others` and `other_flag` into the state in `words` and `flag`. Both have
+/// the same range of `count` numbers. Afterwards a bit is set if either state had seen its number.
+/// If `other_flag` is not 0, `flag` becomes 1. Other bits of `words` are unchanged.
 pub fn merge(count: usize, words: &mut [u64], flag: &mut u64, others: &[u64], other_flag: u64)
     requires { count ≤ 64 * length words.old }
     ensures { (least : ℤ) → Holds least count words.old words.new flag.new

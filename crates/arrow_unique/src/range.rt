@@ -1,11 +1,12 @@
-//! Ranges of states.
+//! The range of the numbers whose distinct values a state collects.
 
 ghost use Rattle.std.specs.Prelude.{◌≡◌, ◌+◌, ◌<◌, ◌^◌, ◌≤ℤ◌, ◌-ℤ◌, ◌+ℤ◌, pos, unsigned_abs};
 ghost use Rattle.std.specs.Prelude.{IfSome, IsNone};
 ghost use Rattle.polars_compute_slots.specs.State.{RangeFits};
 
-/// Returns the number of whole numbers from `least` to `greatest`, or `None` if there is no state
-/// of them: they are not in order, or more than `usize::MAX - 1`.
+/// Returns how many integers there are from `least` to `greatest`, both included. Returns `None` if
+/// `greatest < least`, or if there are more than `usize::MAX - 1` integers, too many for a state of
+/// distinct values.
 pub fn count_between(least: i128, greatest: i128) -> Option<usize>
     ensures count { IfSome result (λ n. n ≡ unsigned_abs (greatest -ℤ least +ℤ pos 1)) }
     ensures fits { IfSome result (λ _. RangeFits least greatest) }
