@@ -21,7 +21,9 @@ use arrow_parts::part::{Part, PartKind};
 use polars_compute_arithmetic::arithmetic::pl_num::PlNumArithmetic;
 use std::alloc::Global;
 
-// Writes the results of an operation on the numbers of two parts.
+// Calculates an operation on the numbers `xs` and `ys` of two parts, row by row. Writes the results
+// into `out`, their validity into `present`, and the number of nulls into `nulls`. Fails with
+// `Parts`, `Room` or `Memory`; nothing is then written.
 fn calculate_numbers<T: PlNumArithmetic>(
     alloc: Global,
     arithmetic: Arithmetic,
@@ -50,7 +52,9 @@ fn calculate_numbers<T: PlNumArithmetic>(
     Ok(())
 }
 
-// Writes the results of an operation on two parts of numbers of one kind and length.
+// Calculates an operation on two parts, row by row, and writes the results into the slice of their
+// type. Fails with `Types` if the parts differ in kind or in length, with `NotServed` if they are
+// not numbers of 8 to 64 bits, and as `calculate_numbers` does.
 fn calculate_parts(
     alloc: Global,
     arithmetic: Arithmetic,
@@ -100,14 +104,17 @@ fn calculate_parts(
     )
 }
 
-/// Writes the results of an operation on two columns of numbers of one kind and length, row by row,
-/// into the slice of their type, which has a number for each row. Writes a bit for each row, 1 if
-/// the result is present, with zeros past the last, and the number of null results. A result is
-/// null if one of the two rows is, or if the divisor is 0; what is written for it is arbitrary.
-/// Other results are wrapped to the type.
+/// Calculates an operation on two columns of numbers of the same kind and length, row by row.
+/// Writes the results into the slice of the columns' type, which has the length of the columns; the
+/// other slices are not used. Writes a bit for each row into `present`, 1 if the result is present,
+/// and sets all later bits to 0. Writes the number of null results into `nulls`.
 ///
-/// `operation` is 0 for sums, 1 for differences, 2 for products, 3 for quotients that are rounded
-/// down, 4 for quotients that are rounded toward 0, and 5 for the remainders of those rounded down.
+/// A result is null if one of the two rows is null, or if the divisor is 0; the number written for
+/// it is arbitrary. Other results are wrapped to the type.
+///
+/// `operation` is 0 for the sum, 1 for the difference, 2 for the product, 3 for the quotient
+/// rounded down, 4 for the quotient rounded toward 0, and 5 for the remainder that belongs to 3.
+/// Returns 0, or the status of a `Fault`; nothing is then written.
 #[unsafe(no_mangle)]
 pub extern "C" fn dunkelva_parts_arithmetic(
     alloc: Global,

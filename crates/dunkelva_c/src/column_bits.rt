@@ -1,4 +1,4 @@
-//! Bits of columns of numbers: reductions and counts.
+//! Bitwise reductions of a column of numbers.
 
 ghost use Rattle.std.specs.Prelude.{◌≡◌, ◌≢◌, length, pos, IfErr, IfOk};
 ghost use Rattle.num_traits.specs.Laws.{bit_len};
@@ -20,7 +20,8 @@ use polars_compute_reductions::bit_number::BitNumber;
 use polars_compute_slots::number::UniqueNumber;
 use std::alloc::Global;
 
-// Joins the bits of a part's present numbers.
+// Joins the numbers of a part's present rows bit by bit. Returns `None` if no row is present. Fails
+// with `Parts` or `Memory`.
 fn reduce_numbers<T: BitNumber + UniqueNumber>(
     alloc: Global,
     operator: BitOperator,
@@ -35,7 +36,8 @@ fn reduce_numbers<T: BitNumber + UniqueNumber>(
     Ok(whole(reduce_bits(operator, &column)))
 }
 
-// Joins the bits of a part of numbers.
+// Joins the numbers of a part's present rows bit by bit, at the type of its kind. Fails with
+// `NotServed` if the part has no numbers of 8 to 64 bits, and as `reduce_numbers` does.
 fn reduce_part(alloc: Global, operator: BitOperator, part: &Part<'_>) -> Result<Option<i128>, Fault>
     ensures bits { IfOk result (IsReduction operator part.now) }
     ensures refused { IfErr result (IsTrueFault part.now) }
@@ -43,8 +45,9 @@ fn reduce_part(alloc: Global, operator: BitOperator, part: &Part<'_>) -> Result<
     at_number_kind!(part, values => reduce_numbers(alloc, operator, part, values))
 }
 
-/// Writes the number whose bits join those of the present rows of a column at each place, or that
-/// there is none if no row is present. `operator` is 0 for AND, 1 for OR and 2 for exclusive OR.
+/// Joins the numbers of the present rows of a column bit by bit, and writes the result into `out`.
+/// If no row is present, `out.exists` becomes 0. `operator` is 0 for AND, 1 for OR and 2 for
+/// exclusive OR. Returns 0, or the status of a `Fault`; `out` is then unchanged.
 #[unsafe(no_mangle)]
 pub extern "C" fn dunkelva_part_reduce_bits(
     alloc: Global,

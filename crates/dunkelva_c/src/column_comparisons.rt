@@ -1,4 +1,4 @@
-//! Comparisons of columns of numbers.
+//! Comparisons of two columns of numbers, row by row.
 
 ghost use Rattle.std.specs.Prelude.{◌≡◌, ◌≢◌, length, pos, IfErr, IfOk, OnErr, OnOk};
 ghost use Rattle.std.specs.Simd.Lanes.{zip2};
@@ -22,7 +22,8 @@ use polars_arrays_bits::bitmap::Bitmap;
 use polars_arrays_numbers::native_type::NativeType;
 use std::alloc::Global;
 
-// Compares the numbers of two parts row by row.
+// Compares the numbers `xs` and `ys` of two parts, row by row. Returns a bit for each row. Fails
+// with `Parts` or `Memory`.
 fn compare_numbers<T: NativeType>(
     alloc: Global,
     test: Test,
@@ -45,7 +46,9 @@ fn compare_numbers<T: NativeType>(
     Ok(bits)
 }
 
-// Compares two parts of numbers of one kind and length row by row.
+// Compares two parts, row by row, at the type of their kind. Fails with `Types` if they differ in
+// kind or in length, with `NotServed` if they are not numbers of 8 to 64 bits, and as
+// `compare_numbers` does.
 fn compare_parts(
     alloc: Global,
     test: Test,
@@ -63,7 +66,8 @@ fn compare_parts(
     at_one_kind!(left, right, (xs, ys) => compare_numbers(alloc, test, left, right, xs, ys))
 }
 
-// Compares two parts of numbers, and writes the bits.
+// Compares two parts, row by row, and writes the bits into `out`. Fails as `compare_parts` does,
+// and with `Room` if `out` has fewer bits than rows; `out` is then unchanged.
 fn write_compared(
     alloc: Global,
     test: Test,
@@ -80,10 +84,12 @@ fn write_compared(
     Ok(())
 }
 
-/// Compares two columns of numbers of one kind and length row by row, and writes a bit for each
-/// row, with zeros past the last. For `test` 0 (equal) and 1 (unequal) null is equal to null alone.
-/// For 2 (less), 3 (less or equal), 4 (greater) and 5 (greater or equal) a bit is 1 only if both
-/// rows are present.
+/// Compares two columns of numbers of the same kind and length, row by row. Writes a bit for each
+/// row into `out`, 1 if the comparison is true, and sets all later bits to 0.
+///
+/// `test` is 0 for equal, 1 for unequal, 2 for less, 3 for less or equal, 4 for greater, and 5 for
+/// greater or equal. For 0 and 1, null is equal to null alone. For the others, the bit is 0 if one
+/// of the two rows is null. Returns 0, or the status of a `Fault`; `out` is then unchanged.
 #[unsafe(no_mangle)]
 pub extern "C" fn dunkelva_parts_compare(
     alloc: Global,
@@ -107,8 +113,9 @@ pub extern "C" fn dunkelva_parts_compare(
     }
 }
 
-/// Compares two columns of numbers of one kind and length for equality, null equal to null alone,
-/// and writes a bit for each row, with zeros past the last.
+/// Compares two columns of numbers of the same kind and length for equality, row by row. Null is
+/// equal to null alone. Writes a bit for each row into `out`, 1 if the rows are equal, and sets all
+/// later bits to 0. Returns 0, or the status of a `Fault`; `out` is then unchanged.
 #[unsafe(no_mangle)]
 pub extern "C" fn dunkelva_parts_equal_lent(
     alloc: Global,

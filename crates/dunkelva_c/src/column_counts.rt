@@ -1,4 +1,5 @@
-//! Counts of the bits of a column's numbers.
+//! Counts bits of each row of a part, at the type of its kind, and writes the counts. Fails with
+//! `NotServed` if the part has no numbers of 8 to 64 bits, and as `count_numbers` does.
 
 ghost use Rattle.std.specs.Prelude.{◌≡◌, ◌≢◌, length, pos, IfErr, OnErr, OnOk};
 ghost use Rattle.arrow_calls.specs.Operations.{counting_number};
@@ -28,10 +29,11 @@ fn count_part(
     at_number_kind!(part, values => count_numbers(alloc, counting, part, values, counts))
 }
 
-/// Writes a count of the bits of each row of a column, into a slice with a number for each row. The
-/// count of a null row is arbitrary: the validity of the counts is that of the column.
-/// `counting` is 0 for ones, 1 for zeros, 2 for leading ones, 3 for leading zeros, 4 for trailing
-/// ones and 5 for trailing zeros.
+/// Counts bits of each row of a column, and writes the counts into `counts`, which has the length
+/// of the column. The validity of the counts is that of the column, and the count of a null row is
+/// arbitrary. `counting` is 0 for ones, 1 for zeros, 2 for leading ones, 3 for leading zeros, 4 for
+/// trailing ones and 5 for trailing zeros. Returns 0, or the status of a `Fault`; `counts` is then
+/// unchanged.
 #[unsafe(no_mangle)]
 pub extern "C" fn dunkelva_part_count_bits(
     alloc: Global,

@@ -15,10 +15,10 @@ use arrow_parts::part::{Part, PartKind};
 use polars_compute_slots::number::UniqueNumber;
 use std::alloc::Global;
 
-// The least and the greatest number of a column, if a row is present.
+// The least and the greatest number of a column, or `None` if no row is present.
 type Ends = Option<(i128, i128)>;
 
-// Returns two numbers of a column as whole numbers.
+// Converts a pair of numbers to `i128`. Returns `None` for `None`.
 fn whole_pair<T: UniqueNumber>(pair: Option<(T, T)>) -> Ends
     ensures { result ≡ option_map (λ p. (T.value p.0, T.value p.1)) pair }
 {
@@ -28,7 +28,8 @@ fn whole_pair<T: UniqueNumber>(pair: Option<(T, T)>) -> Ends
     }
 }
 
-// Returns the ends of a part's numbers.
+// Returns the least and the greatest number of a part's present rows. Fails with `Parts` or
+// `Memory`.
 fn ends_of<T: UniqueNumber>(alloc: Global, part: &Part<'_>, values: &[T]) -> Result<Ends, Fault>
     ensures ends { IfOk result (AreEnds (rows_lent T.value part.now values.now)) }
     ensures refused { IfErr result (IsTrueOf (IsColumn part.now (length values.now))) }
@@ -37,7 +38,8 @@ fn ends_of<T: UniqueNumber>(alloc: Global, part: &Part<'_>, values: &[T]) -> Res
     Ok(whole_pair(min_max(&column)))
 }
 
-// Returns the ends of a part of numbers.
+// Returns the least and the greatest number of a part's present rows, at the type of its kind.
+// Fails with `NotServed` if the part has no numbers of 8 to 64 bits, and as `ends_of` does.
 fn part_ends(alloc: Global, part: &Part<'_>) -> Result<Ends, Fault>
     ensures ends { IfOk result (AreEnds (number_rows_of part.now)) }
     ensures refused { IfErr result (IsTrueFault part.now) }
@@ -45,8 +47,8 @@ fn part_ends(alloc: Global, part: &Part<'_>) -> Result<Ends, Fault>
     at_number_kind!(part, values => ends_of(alloc, part, values))
 }
 
-/// Writes the least and the greatest number of the present rows of a column, or twice that there is
-/// none if no row is present.
+/// Writes the least and the greatest number of the present rows of a column. If no row is present,
+/// `exists` of both becomes 0. Returns 0, or the status of a `Fault`; both are then unchanged.
 #[unsafe(no_mangle)]
 pub extern "C" fn dunkelva_part_min_max(
     alloc: Global,

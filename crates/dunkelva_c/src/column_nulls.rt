@@ -1,4 +1,4 @@
-//! Nulls of arrays of one level.
+//! Null rows of columns: arrays without child arrays.
 
 ghost use Rattle.std.specs.Prelude.{◌≡◌, ◌≢◌, length, pos, IfErr, IfOk, OnErr, OnOk};
 ghost use Rattle.arrow_calls.specs.Statuses.{IsTrueOf, IsTrueStatus};
@@ -19,14 +19,15 @@ use polars_arrays_bits::bitmap::Bitmap;
 use polars_arrays_flat::validity::null_count;
 use std::alloc::Global;
 
-// A bit for each row, 1 if the row is null, and the number of nulls.
+// The null rows of a column: a bit for each row, 1 if the row is null, and the number of nulls.
 #[derive(Drop)]
 struct Nulls {
     bits: Bitmap,
     count: usize,
 }
 
-// Returns the nulls of a part whose rows are null exactly where they are masked.
+// Returns the null rows of a part by its validity alone: a row is null if its bit is 0. Fails with
+// `Parts` if there are fewer bits than rows, and with `Memory` if an allocation fails.
 fn masked(alloc: Global, part: &Part<'_>) -> Result<Nulls, Fault>
     ensures bits { IfOk result (λ nulls. nulls.bits
         ≡ masked_bits part.now.rows (present_in part.now)) }
@@ -49,7 +50,8 @@ fn masked(alloc: Global, part: &Part<'_>) -> Result<Nulls, Fault>
     }
 }
 
-// Returns the nulls of a part.
+// Returns the null rows of a part. Fails with `NotServed` unless it has numbers of 8 to 64 bits,
+// truth values, or nulls alone. Fails as `masked` does.
 fn part_nulls(alloc: Global, part: &Part<'_>) -> Result<Nulls, Fault>
     ensures bits { IfOk result (λ nulls. nulls.bits
         ≡ nulls_at (kind_number part.now.kind) part.now) }
@@ -79,7 +81,8 @@ fn part_nulls(alloc: Global, part: &Part<'_>) -> Result<Nulls, Fault>
     }
 }
 
-// Writes the nulls of a part.
+// Writes the bits and the number of the null rows of a part. Fails as `part_nulls` does, and with
+// `Room` if `out` has fewer bits than rows; nothing is then written.
 fn write_nulls(
     alloc: Global,
     part: &Part<'_>,
@@ -96,8 +99,9 @@ fn write_nulls(
     Ok(())
 }
 
-/// Writes a bit for each row of a column, 1 if the row is null, with zeros past the last, and the
-/// number of nulls. It serves numbers of 8 to 64 bits, truth values and columns of nulls.
+/// Writes a bit for each row of a column, 1 if the row is null, and sets all later bits of `out` to
+/// 0. Writes the number of null rows into `count`. The column has numbers of 8 to 64 bits, truth
+/// values, or nulls alone. Returns 0, or the status of a `Fault`; nothing is then written.
 #[unsafe(no_mangle)]
 pub extern "C" fn dunkelva_part_is_null(
     alloc: Global,

@@ -18,7 +18,8 @@ use polars_compute_reductions::sum::WrappingAdd;
 use polars_compute_slots::number::UniqueNumber;
 use std::alloc::Global;
 
-// Returns the sum of a part's numbers, wrapped to their type, or `None` if no row is present.
+// Returns the sum of a part's present rows, wrapped to type `T`, or `None` if no row is present.
+// Fails with `Parts` or `Memory`.
 fn sum_of<T: UniqueNumber + WrappingAdd>(
     alloc: Global,
     part: &Part<'_>,
@@ -32,7 +33,8 @@ fn sum_of<T: UniqueNumber + WrappingAdd>(
     Ok(whole(sum(&column)))
 }
 
-// Returns the sum of a part of numbers.
+// Returns the sum of a part's present rows, wrapped to the type of its kind. Fails with `NotServed`
+// if the part has no numbers of 8 to 64 bits, and as `sum_of` does.
 fn part_sum(alloc: Global, part: &Part<'_>) -> Result<Option<i128>, Fault>
     ensures sum { IfOk result (λ sum. sum ≡ sum_of_part part.now) }
     ensures refused { IfErr result (IsTrueFault part.now) }
@@ -40,8 +42,9 @@ fn part_sum(alloc: Global, part: &Part<'_>) -> Result<Option<i128>, Fault>
     at_number_kind!(part, values => sum_of(alloc, part, values))
 }
 
-/// Writes the sum of the present rows of a column of numbers, wrapped to their type, or that there
-/// is none if no row is present.
+/// Writes the sum of the present rows of a column of numbers, wrapped to their type, into `sum`. If
+/// no row is present, `sum.exists` becomes 0. Returns 0, or the status of a `Fault`; `sum` is then
+/// unchanged.
 #[unsafe(no_mangle)]
 pub extern "C" fn dunkelva_part_sum(alloc: Global, part: &Part<'_>, sum: &mut Number) -> i32
     ensures written { result ≡ pos 0 → sum.new ≡ number_words (sum_of_part part.now) }

@@ -1,6 +1,7 @@
-//! The types of the numbers of parts, by their kinds.
+//! Calls of generic functions at the number type of a part's kind.
 
-// Runs a call on the numbers of a part, at the type that its kind names.
+// Evaluates `$each` with the numbers of a part bound to `$values`. Gives the error `NotServed` if
+// the part's kind has no numbers of 8 to 64 bits.
 macro_rules! at_number_kind {
     ($part:expr, $values:ident => $each:expr) => {
         match PartKind::of($part.kind) {
@@ -19,7 +20,8 @@ macro_rules! at_number_kind {
 
 pub(crate) use at_number_kind;
 
-// Runs a call on the numbers of two parts of one kind, at the type that the left one's kind names.
+// Evaluates `$each` with the numbers of two parts of one kind bound to `$xs` and `$ys`. Gives the
+// error `NotServed` if the kind has no numbers of 8 to 64 bits.
 macro_rules! at_one_kind {
     ($left:expr, $right:expr, ($xs:ident, $ys:ident) => $each:expr) => {
         match PartKind::of($left.kind) {

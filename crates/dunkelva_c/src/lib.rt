@@ -1,7 +1,7 @@
-//! Exports of the kernels to programs in other languages, over memory that these lend.
+//! The kernels, exported to programs in other languages. They work on memory that the caller lends.
 //!
-//! Each export returns a status: 0 if the result was written, or else a reason, and then the
-//! caller's memory is unchanged.
+//! Each export returns a status: 0 if the result was written, or else a code for the reason. The
+//! caller's memory is then unchanged.
 #![tactic(auto)]
 
 mod arithmetic;

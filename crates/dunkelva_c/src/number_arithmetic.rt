@@ -1,4 +1,4 @@
-//! Arithmetic on a column of numbers and a number.
+//! Arithmetic on a column of numbers and a constant number.
 
 ghost use Rattle.std.specs.Prelude.{◌≡◌, ◌≢◌, length, pos, IfErr, OnErr, OnOk};
 ghost use Rattle.num_traits.specs.Laws.{bit_len};
@@ -22,7 +22,10 @@ use polars_compute_arithmetic::arithmetic::pl_num::PlNumArithmetic;
 use polars_compute_slots::number::UniqueNumber;
 use std::alloc::Global;
 
-// Writes the results of an operation on the numbers of a part and a number.
+// Calculates an operation on each number of a part and the constant `number`, which is on side
+// `side`. Writes the results into `out`, their validity into `present`, and the number of nulls
+// into `nulls`. Fails with `Types` if type `T` can't represent the constant, and with `Parts`,
+// `Room` or `Memory`; nothing is then written.
 fn calculate_numbers<T: PlNumArithmetic + UniqueNumber>(
     alloc: Global,
     arithmetic: Arithmetic,
@@ -52,7 +55,9 @@ fn calculate_numbers<T: PlNumArithmetic + UniqueNumber>(
     Ok(())
 }
 
-// Writes the results of an operation on a part of numbers and a number.
+// Calculates an operation on each row of a part and a constant, and writes the results into the
+// slice of the part's type. Fails with `NotServed` if the part has no numbers of 8 to 64 bits, and
+// as `calculate_numbers` does.
 fn calculate_part(
     alloc: Global,
     arithmetic: Arithmetic,
@@ -97,10 +102,13 @@ fn calculate_part(
     )
 }
 
-/// Writes the results of an operation on each row of a column of numbers and a number of its type,
-/// given as the low and the high word of 128 bits, as `dunkelva_parts_arithmetic` writes those of
-/// two columns. `side` is 0 if the number is on the left of the operation, and 1 if it is on the
-/// right.
+/// Calculates an operation on each row of a column and a constant number. `low` and `high` are the
+/// lower and the upper word of the constant, in two's complement of 128 bits. `side` is 0 if the
+/// constant is on the left of the operation, and 1 if it is on the right.
+///
+/// `operation`, `present`, `nulls` and the slices for the results are those of
+/// `dunkelva_parts_arithmetic`. Returns 0, or the status of a `Fault`; nothing is then written. If
+/// the column's type can't represent the constant, that is the status of `Fault::Types`.
 #[unsafe(no_mangle)]
 pub extern "C" fn dunkelva_part_arithmetic_number(
     alloc: Global,

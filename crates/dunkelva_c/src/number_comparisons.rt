@@ -1,4 +1,4 @@
-//! Comparisons of a column of numbers with a number.
+//! Comparisons of a column of numbers with a constant number.
 
 ghost use Rattle.std.specs.Prelude.{◌≡◌, ◌≢◌, length, map, pos, IfErr, IfOk, OnErr, OnOk};
 ghost use Rattle.arrow_calls.specs.Columns.{rows_lent};
@@ -24,7 +24,8 @@ use polars_arrays_bits::bitmap::Bitmap;
 use polars_compute_slots::number::UniqueNumber;
 use std::alloc::Global;
 
-// Compares each number of a part with a number of its type.
+// Compares each number of a part with the constant `number`. Returns a bit for each row. Fails with
+// `Types` if type `T` can't represent the constant, and with `Parts` or `Memory`.
 fn compare_numbers<T: UniqueNumber>(
     alloc: Global,
     test: Test,
@@ -46,7 +47,8 @@ fn compare_numbers<T: UniqueNumber>(
     Ok(bits)
 }
 
-// Compares each number of a part with a number.
+// Compares each number of a part with the constant `number`, at the type of the part's kind. Fails
+// with `NotServed` if the part has no numbers of 8 to 64 bits, and as `compare_numbers` does.
 fn compare_part(alloc: Global, test: Test, part: &Part<'_>, number: i128) -> Result<Bitmap, Fault>
     ensures bits { IfOk result (λ bits. bits ≡ compared_with test part.now number) }
     ensures count { IfOk result (λ bits. length bits ≡ part.now.rows) }
@@ -55,7 +57,9 @@ fn compare_part(alloc: Global, test: Test, part: &Part<'_>, number: i128) -> Res
     at_number_kind!(part, values => compare_numbers(alloc, test, part, number, values))
 }
 
-// Compares each number of a part with a number, and writes the bits.
+// Compares each number of a part with the constant `number`, and writes the bits into `out`. Fails
+// as `compare_part` does, and with `Room` if `out` has fewer bits than rows; `out` is then
+// unchanged.
 fn write_compared(
     alloc: Global,
     test: Test,
@@ -72,10 +76,14 @@ fn write_compared(
     Ok(())
 }
 
-/// Compares each row of a column of numbers with a number of its type, given as the low and the
-/// high word of 128 bits, and writes a bit for each row, with zeros past the last. `test` is a
-/// number as for `dunkelva_parts_compare`. A null is unequal to the number, and no other comparison
-/// holds of it.
+/// Compares each row of a column of numbers with a constant number on the right. `low` and `high`
+/// are the lower and the upper word of the constant, in two's complement of 128 bits. Writes a bit
+/// for each row into `out`, 1 if the comparison is true, and sets all later bits to 0.
+///
+/// `test` has the values of `dunkelva_parts_compare`. A null row is unequal to the constant, and
+/// all other comparisons with it are false. Returns 0, or the status of a `Fault`; `out` is then
+/// unchanged. If the column's type can't represent the constant, that is the status of
+/// `Fault::Types`.
 #[unsafe(no_mangle)]
 pub extern "C" fn dunkelva_part_compare_number(
     alloc: Global,

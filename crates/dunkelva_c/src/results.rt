@@ -1,4 +1,4 @@
-//! Results of arithmetic in the caller's memory.
+//! Arithmetic results, written into the caller's memory.
 
 ghost use Rattle.std.specs.Prelude.{◌≡◌, ◌≤◌, ◌*◌, not, count_by, length, IfErr, OnErr, OnOk};
 ghost use Rattle.arrow_calls.specs.declared.fault.Fault.TheVariants.{Room};
@@ -10,7 +10,8 @@ use arrow_parts::part::Part;
 use arrow_parts::written::write_bits;
 use polars_arrays_bits::bitmap::Bitmap;
 
-// Runs a call on the numbers of two parts of one kind and the caller's slice of their type.
+// Calls a function with the numbers of two parts of one kind, and with the caller's slice for
+// results of their type. Gives the error `NotServed` if the kind has no numbers of 8 to 64 bits.
 macro_rules! into_one_kind {
     ($left:expr, $right:expr, $i8s:expr, $i16s:expr, $i32s:expr, $i64s:expr,
         $u8s:expr, $u16s:expr, $u32s:expr, $u64s:expr,
@@ -47,7 +48,8 @@ macro_rules! into_one_kind {
 
 pub(crate) use into_one_kind;
 
-// Runs a call on the numbers of a part and the caller's slice of their type.
+// Calls a function with the numbers of a part, and with the caller's slice for results of their
+// type. Gives the error `NotServed` if the part's kind has no numbers of 8 to 64 bits.
 macro_rules! into_kind {
     ($part:expr, $i8s:expr, $i16s:expr, $i32s:expr, $i64s:expr,
         $u8s:expr, $u16s:expr, $u32s:expr, $u64s:expr,
@@ -68,7 +70,8 @@ macro_rules! into_kind {
 
 pub(crate) use into_kind;
 
-/// Writes the bits of the present rows, with zeros past the last, and the number of other rows.
+/// Writes the validity `bits` into `present`, and sets all later bits of `present` to 0. Sets
+/// `nulls` to the number of bits that are 0.
 pub(crate) fn write_present(bits: &Bitmap, present: &mut [u64], nulls: &mut u64)
     requires { length bits.now ≤ 64 * length present.old }
     ensures bits { AreWritten bits.now present.new }
@@ -80,8 +83,8 @@ pub(crate) fn write_present(bits: &Bitmap, present: &mut [u64], nulls: &mut u64)
     }
 }
 
-/// Checks that there is room for a number for each row of a part, and for their bits. The error is
-/// `Room`.
+/// Checks the sizes of the slices for results: `values` numbers have to be one for each row of the
+/// part, and `words` words need a bit for each row. The only error is `Room`.
 pub(crate) fn check_room(part: &Part<'_>, values: usize, words: usize) -> Result<(), Fault>
     ensures room { OnOk result (HasRoom part.now values words) }
     ensures refused { IfErr result (λ fault. fault ≡ Room) }

@@ -18,7 +18,9 @@ use arrow_parts::part::{Part, PartKind};
 use polars_compute_arithmetic::arithmetic::pl_num::PlNumArithmetic;
 use std::alloc::Global;
 
-// Writes the results of a function of the numbers of a part.
+// Applies a function to each number of a part. Writes the results into `out`, their validity into
+// `present`, and the number of nulls into `nulls`. Fails with `Parts`, `Room` or `Memory`; nothing
+// is then written.
 fn change_numbers<T: PlNumArithmetic>(
     alloc: Global,
     sign: Sign,
@@ -43,7 +45,9 @@ fn change_numbers<T: PlNumArithmetic>(
     Ok(())
 }
 
-// Writes the results of a function of a part of numbers.
+// Applies a function to each number of a part, and writes the results into the slice of the part's
+// type. Fails with `NotServed` if the part has no numbers of 8 to 64 bits, and as `change_numbers`
+// does.
 fn change_part(
     alloc: Global,
     sign: Sign,
@@ -86,9 +90,11 @@ fn change_part(
     )
 }
 
-/// Writes the negated numbers or the absolute values of a column, wrapped to its type, as
-/// `dunkelva_parts_arithmetic` writes the results of two columns. Nulls stay null. `sign` is 0 for
-/// negation, and 1 for absolute values.
+/// Negates each row of a column, or calculates its absolute value. Results are wrapped to the type
+/// of the column, and nulls stay null. `sign` is 0 for negation, and 1 for absolute values.
+///
+/// `present`, `nulls` and the slices for the results are those of `dunkelva_parts_arithmetic`.
+/// Returns 0, or the status of a `Fault`; nothing is then written.
 #[unsafe(no_mangle)]
 pub extern "C" fn dunkelva_part_sign(
     alloc: Global,

@@ -1,7 +1,7 @@
 //! States of distinct values in the caller's memory.
 //!
-//! A state is a range, words with a bit for each number of the range, the least first, and a flag
-//! that is not 0 where a null was seen.
+//! A state has a range of integers, words with a bit for each integer of the range, the least
+//! first, and a flag, which is not 0 if a null was seen.
 
 ghost use Rattle.std.specs.Prelude.{◌≡◌, ◌≢◌, ◌≤◌, ◌*◌, length, pos, IfErr, IfOk, IfSome, IsNone};
 ghost use Rattle.std.specs.Prelude.{OnErr, OnOk};
@@ -26,18 +26,18 @@ use polars_compute_slots::number::UniqueNumber;
 use polars_compute_slots::span::Span;
 use std::alloc::Global;
 
-/// A reason why a call on a state has no result.
+/// A reason why a call on a state fails.
 #[derive(Clone, Copy, Drop, Debug)]
 pub(crate) enum StateFault {
-    /// A reason that calls on columns have too.
+    /// An error that calls on columns have too.
     Of(Fault),
-    /// The ends of the range are not in order, or there are too many numbers between them.
+    /// The least number of the range exceeds the greatest one, or the range has too many numbers.
     NoRange,
-    /// A row is a number outside of the range.
+    /// The number of a row is outside of the range.
     Outside,
 }
 
-// Returns the status of a call on a state that has no result.
+// Returns the status code of a failed call on a state, in C.
 fn status(fault: StateFault) -> i32
     ensures { result ≡ state_status fault }
 {
@@ -48,7 +48,7 @@ fn status(fault: StateFault) -> i32
     }
 }
 
-// The range of a state: its ends, and how many numbers it has.
+// The range of a state. `count` is how many numbers it has.
 #[derive(Clone, Copy, Drop)]
 pub(crate) struct Range {
     least: i128,
@@ -56,7 +56,8 @@ pub(crate) struct Range {
     count: usize,
 }
 
-// Returns the range of a state of this many words.
+// Checks the range from `least` to `greatest` of a state of `words` words, and returns it. Fails
+// with `NoRange` if `count_between` returns `None`, and with `Room` if there are too few words.
 fn range_of(least: &Number, greatest: &Number, words: usize) -> Result<Range, StateFault>
     ensures range { IfOk result (IsRange least.now greatest.now words) }
     ensures refused { IfErr result (IsTrueRangeFault least.now greatest.now words) }
@@ -76,7 +77,8 @@ fn range_of(least: &Number, greatest: &Number, words: usize) -> Result<Range, St
     })
 }
 
-// Returns the least number of a range, or `None` if a type lacks one of the ends.
+// Returns the least number of a range as a number of type `T`, or `None` if the type can't
+// represent both ends of the range.
 fn least_in<T: UniqueNumber>(range: &Range) -> Option<T>
     ensures number { IfSome result (λ least. T.value least ≡ range.now.least) }
     ensures none { IsNone result → ¬ (IsWithin T.low T.high range.now.least
@@ -91,8 +93,9 @@ fn least_in<T: UniqueNumber>(range: &Range) -> Option<T>
     Some(least)
 }
 
-// Appends the numbers of a part to a state, if all of them are in the range, and returns whether
-// they are.
+// Appends the numbers of a part to a state, and returns whether all rows are null or in the range;
+// if not, nothing is changed. Fails with `Types` if type `T` can't represent the range, and with
+// `Parts` or `Memory`.
 fn append_numbers<T: UniqueNumber>(
     alloc: Global,
     part: &Part<'_>,
@@ -117,8 +120,9 @@ fn append_numbers<T: UniqueNumber>(
     Ok(append(&column, &Span { least, count }, words, flag))
 }
 
-// Appends the rows of a part to a state, if all of them are null or in the range, and returns
-// whether they are.
+// Appends the rows of a part to a state, and returns whether all rows are null or in the range; if
+// not, nothing is changed. Fails with `NotServed` if the part has no numbers of 8 to 64 bits, and
+// as `append_numbers` does.
 fn append_part(
     alloc: Global,
     part: &Part<'_>,
@@ -136,7 +140,9 @@ fn append_part(
     at_number_kind!(part, values => append_numbers(alloc, part, range, words, flag, values))
 }
 
-// Appends the rows of a part to a state.
+// Appends the rows of a part to the state of the range from `least` to `greatest`. Fails with
+// `Outside` if the number of a row is not in the range, and as `range_of` and `append_part` do. The
+// state is then unchanged.
 fn append_state(
     alloc: Global,
     part: &Part<'_>,
@@ -159,9 +165,12 @@ fn append_state(
     }
 }
 
-/// Appends the rows of a column of numbers to a state: sets exactly the bits of the numbers that
-/// are present, and the flag to 1 if a row is null. Bits past the last number of the range stay as
-/// they are. A row outside of the range is status 8.
+/// Appends the rows of a column of numbers to the state of the range from `least` to `greatest`.
+/// Sets the bits of all present numbers, and sets `flag` to 1 if a row is null. Bits past the last
+/// number of the range are unchanged.
+///
+/// Returns 0, or the status of a `StateFault`; the state is then unchanged. The status is 8 if the
+/// number of a row is outside of the range.
 #[unsafe(no_mangle)]
 pub extern "C" fn dunkelva_state_append(
     alloc: Global,
@@ -183,7 +192,8 @@ pub extern "C" fn dunkelva_state_append(
     }
 }
 
-// Merges a state into another one of the same range.
+// Merges the state in `others` and `other_flag` into the state in `words` and `flag`, which has the
+// same range. Fails as `range_of` does, for either number of words; the state is then unchanged.
 fn merge_state(
     least: &Number,
     greatest: &Number,
@@ -204,9 +214,11 @@ fn merge_state(
     Ok(())
 }
 
-/// Merges a state into another one of the same range: sets exactly the bits of the numbers that
-/// either has seen, and the flag to 1 if the other one saw a null. Bits past the last number of the
-/// range stay as they are.
+/// Merges the state in `others` and `other_flag` into the state in `words` and `flag`, which has
+/// the same range. Afterwards a bit is set if either state had seen its number. `flag` becomes 1 if
+/// `other_flag` is not 0. Bits past the last number of the range are unchanged.
+///
+/// Returns 0, or the status of a `StateFault`; the state is then unchanged.
 #[unsafe(no_mangle)]
 pub extern "C" fn dunkelva_state_merge(
     least: &Number,
@@ -228,7 +240,7 @@ pub extern "C" fn dunkelva_state_merge(
     }
 }
 
-// Counts what a state has seen.
+// Counts the distinct values and the distinct rows that a state has seen. Fails as `range_of` does.
 fn count_state(
     least: &Number,
     greatest: &Number,
@@ -248,8 +260,9 @@ fn count_state(
     Ok(())
 }
 
-/// Writes the number of distinct values that a state has seen, and that of distinct rows, which is
-/// one more if a null was seen.
+/// Writes the number of distinct values that a state has seen into `values`, and the number of
+/// distinct rows into `rows`. The rows are one more than the values if a null was seen. Returns 0,
+/// or the status of a `StateFault`; nothing is then written.
 #[unsafe(no_mangle)]
 pub extern "C" fn dunkelva_state_count(
     least: &Number,
@@ -271,7 +284,9 @@ pub extern "C" fn dunkelva_state_count(
     }
 }
 
-// Lists what a state has seen.
+// Writes the distinct values that a state has seen into `out`, and whether a null was seen into
+// `has_null`. Fails as `range_of` does, and with `Room` if `out` is too short; nothing is then
+// written.
 fn list_state(
     least: &Number,
     greatest: &Number,
@@ -295,9 +310,12 @@ fn list_state(
     Ok(())
 }
 
-/// Writes the distinct values that a state has seen, ascending, and whether a null was: 1 or 0. A
-/// value is written as the lower 64 bits of its two's complement. What lies past the last value
-/// stays as it is.
+/// Writes the distinct values that a state has seen into `out`, in ascending order. Each value is
+/// written as the lower 64 bits of its two's complement. The rest of `out` is unchanged. `has_null`
+/// becomes 1 if a null was seen, and else 0.
+///
+/// Returns 0, or the status of a `StateFault`; nothing is then written. The status is 3 if `out` is
+/// too short.
 #[unsafe(no_mangle)]
 pub extern "C" fn dunkelva_state_list(
     least: &Number,

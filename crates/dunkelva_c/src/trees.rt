@@ -1,4 +1,4 @@
-//! Arrays of any type: equality and null rows.
+//! Kernels for arrays of any type: equality, and null rows.
 
 ghost use Rattle.std.specs.Prelude.{◌≡◌, ◌≢◌, length, pos};
 ghost use Rattle.arrow_arrays.specs.Good.{AreGoodParts};
@@ -13,19 +13,19 @@ use arrow_equality::nulls::null_rows;
 use arrow_parts::part::Part;
 use std::alloc::Global;
 
-/// Sets bit `i` of `out` if rows `i` of two arrays are the same tree, where null is the same as
-/// null alone, and all bits past the last row to 0. The first of `comparisons` becomes the number
-/// of leaves that were compared: at most one for each leaf slot of the left array, and at most the
-/// greatest `u64`.
+/// Compares two arrays, row by row. Sets bit `i` of `out` if the two rows `i` are equal as trees,
+/// and sets all bits past the last row to 0. Null is equal to null alone. Sets `comparisons[0]` to
+/// the number of leaves that were compared: at most one for each leaf slot of the left array, and
+/// at most `u64::MAX`. Types may be equal though their offsets differ in width.
 ///
-/// The status is 0, or else both slices are unchanged: it is 1 if one of the arrays cannot be made
-/// of its parts, 2 if the two are not of one type and length, 3 if `out` has fewer bits than rows
-/// or `comparisons` is empty, and 4 if an allocation fails. The width of offsets is no part of a
-/// type.
+/// Returns 0, or else a status, and both slices are unchanged. The status is 1 if the parts of an
+/// array make no array, 2 if the arrays differ in type or in length, 3 if `out` has fewer bits than
+/// rows or `comparisons` is empty, and 4 if an allocation fails.
 ///
-/// The clauses say this of the parts alone: what 0 means for the bits (`same`), for the number
-/// (`count`) and for the parts (`good`), that nothing is written otherwise (`kept`, `count_kept`),
-/// and that each status but 0 is true (`refused`), except that nothing is said of 4.
+/// The contract states this for the parts: the bits (`same`), the number (`count`) and the parts
+/// (`good`) if the result is 0, and that nothing is written otherwise (`kept`, `count_kept`). Each
+/// other status is returned only if its reason is true (`refused`), but for status 4 nothing is
+/// promised.
 #[tactic(auto, using(crate::proofs::TreeFaults::trees))]
 #[unsafe(no_mangle)]
 pub extern "C" fn dunkelva_parts_equal(
@@ -49,12 +49,12 @@ pub extern "C" fn dunkelva_parts_equal(
     }
 }
 
-/// Sets bit `i` of `out` if row `i` of an array is null, and all bits past the last row to 0.
-/// `count` becomes the number of null rows. A row of a dictionary is null if its key is null, or
-/// the entry that the key names.
+/// Sets bit `i` of `out` if row `i` of an array is null, and sets all bits past the last row to 0.
+/// Sets `count` to the number of null rows. A row of a dictionary is null if its key is null, or if
+/// the entry of the key is null.
 ///
-/// The status is 0, or else nothing is written: it is 1 if the array cannot be made of its parts, 3
-/// if `out` has fewer bits than rows, and 4 if an allocation fails.
+/// Returns 0, or else a status, and nothing is written. The status is 1 if the parts make no array,
+/// 3 if `out` has fewer bits than rows, and 4 if an allocation fails.
 #[tactic(auto, using(crate::proofs::TreeFaults::nulls))]
 #[unsafe(no_mangle)]
 pub extern "C" fn dunkelva_parts_are_null(
