@@ -1,4 +1,4 @@
-//! Rows as a list, and an array of them at bit offsets.
+//! Rows as a list, and a `BooleanArray` of these rows at given bit offsets.
 
 use crate::draw::{CHANCES, Draw};
 use polars_arrays_bits::bitmap::Bitmap;
@@ -7,35 +7,36 @@ use polars_arrays_flat::boolean::BooleanArray;
 use recorded_text::fault::Fault;
 use std::alloc::{AllocError, Global};
 
-/// The number of bits after the rows.
+/// The number of bits stored after the rows of an array.
 const BEHIND: usize = 66;
 
-/// The room for truth values: those before the rows, the rows, and those after them.
+/// The capacity for the bits of an array: those before the rows, the rows, and those after them.
 const ROOM: usize = 264;
 
-/// The distribution of rows.
+/// The distribution of random rows.
 #[derive(Clone, Copy)]
 pub struct Sort {
-    /// A flag for arrays with a validity.
+    /// `true` if arrays have a validity.
     pub has_validity: bool,
     /// Chances in 32 that a row is null.
     pub nulls: u64,
-    /// Chances in 32 that a present row is true. Any other bit is true in the other cases.
+    /// Chances in 32 that a present row is true. Bits that are no rows, and the values of nulls,
+    /// are true in the other cases.
     pub trues: u64,
 }
 
-/// The place where an array begins.
+/// The bit offsets at which an array begins.
 #[derive(Clone, Copy)]
 pub struct Place {
-    /// First bit of the values.
+    /// The index of the first bit of the values.
     pub values: usize,
-    /// First bit of the validity.
+    /// The index of the first bit of the validity.
     pub validity: usize,
 }
 
 impl Place {
-    // Returns the number of leading rows that slicing the array cuts off. The bitmaps are first
-    // sliced to begin with these.
+    // Returns how many rows before the first one are cut off by slicing the array. The bitmaps are
+    // sliced first, so that they begin with these rows.
     fn rows_ahead(self) -> usize {
         if self.values % 2 == 0 {
             0
@@ -45,7 +46,7 @@ impl Place {
     }
 }
 
-/// Rows, and an array of them.
+/// A list of rows, and an array that should have these rows.
 #[derive(Drop)]
 pub struct Column {
     rows: Vec<Option<bool>>,
@@ -53,7 +54,7 @@ pub struct Column {
 }
 
 impl Column {
-    /// Draws `len` rows, and creates their array.
+    /// Draws `len` random rows, and creates an array of them.
     pub fn draw(
         alloc: Global,
         sort: Sort,
@@ -65,7 +66,7 @@ impl Column {
         Column::of_rows(alloc, sort, rows, place, draw)
     }
 
-    /// Creates the array of rows.
+    /// Creates an array of the given rows.
     pub fn of_rows(
         alloc: Global,
         sort: Sort,
@@ -87,7 +88,8 @@ impl Column {
         &self.array
     }
 
-    /// Negates a present row of the list of rows. The array stays unchanged.
+    /// Negates row `i` of the list, so that the list is wrong. The array is unchanged. Does nothing
+    /// if the row is null or does not exist.
     pub fn turn_row(&mut self, i: usize) {
         if let Some(Some(truth)) = self.rows.get_mut(i) {
             *truth = !*truth;
@@ -95,7 +97,7 @@ impl Column {
     }
 }
 
-// Draws rows.
+// Draws `len` random rows.
 fn draw_rows(
     alloc: Global,
     sort: Sort,
@@ -111,7 +113,7 @@ fn draw_rows(
     Ok(rows)
 }
 
-// Creates an array of rows.
+// Creates an array of rows. Fails with `Case` if a bitmap or the array is too short to be sliced.
 fn store_rows(
     alloc: Global,
     sort: Sort,
@@ -123,7 +125,7 @@ fn store_rows(
     cut_rows(array, place.rows_ahead(), rows.len())
 }
 
-// Creates an array of rows, and of the rows before and after them that slicing cuts off.
+// Creates an array that also has `place.rows_ahead()` rows before and after the given rows.
 fn store_wide(
     alloc: Global,
     sort: Sort,
@@ -136,7 +138,7 @@ fn store_wide(
     Ok(BooleanArray::try_new(values, validity)?)
 }
 
-// Creates the values of rows. The value of a null is arbitrary.
+// Creates the values of an array. The values of nulls are random.
 fn store_values(
     alloc: Global,
     sort: Sort,
@@ -149,7 +151,7 @@ fn store_values(
     cut_bits(alloc, &truths, place.values, place.rows_ahead())
 }
 
-// Pushes the values of rows, and those before and after them.
+// Appends random bits, the values of the rows, and random bits again.
 fn push_values(
     truths: &mut Vec<bool>,
     sort: Sort,
@@ -165,7 +167,7 @@ fn push_values(
     push_others(truths, BEHIND, others, draw)
 }
 
-// Creates the validity of rows, if there is to be one.
+// Creates the validity of an array, or returns `None` if `sort` has none.
 fn store_validity(
     alloc: Global,
     sort: Sort,
@@ -180,7 +182,7 @@ fn store_validity(
     }
 }
 
-// Creates the validity of rows.
+// Creates the validity of an array.
 fn store_present(
     alloc: Global,
     sort: Sort,
@@ -193,7 +195,8 @@ fn store_present(
     cut_bits(alloc, &truths, place.validity, place.rows_ahead())
 }
 
-// Pushes whether rows are present, and bits before and after them.
+// Appends random bits, a bit for each row, which is true if the row is present, and random bits
+// again.
 fn push_present(
     truths: &mut Vec<bool>,
     sort: Sort,
@@ -208,7 +211,7 @@ fn push_present(
     push_others(truths, BEHIND, sort.nulls, draw)
 }
 
-// Pushes truth values that are not rows.
+// Appends `n` random bits. Each is true in `chances` of 32 cases.
 fn push_others(
     truths: &mut Vec<bool>,
     n: usize,
@@ -221,8 +224,8 @@ fn push_others(
     Ok(())
 }
 
-// Packs truth values, and keeps the rows, which begin at bit `at`, and `ahead` bits before and
-// after them.
+// Packs truth values into a bitmap, and slices it down to the rows, which begin at bit `at`, with
+// `ahead` more bits before and after them. Fails with `Case` if there are too few bits.
 fn cut_bits(alloc: Global, truths: &[bool], at: usize, ahead: usize) -> Result<Bitmap, Fault> {
     let mut bits = Bitmap::from_bools(alloc, truths)?;
     let from = at.saturating_sub(ahead);
@@ -235,7 +238,7 @@ fn cut_bits(alloc: Global, truths: &[bool], at: usize, ahead: usize) -> Result<B
     Ok(bits)
 }
 
-// Keeps the `n` rows from row `at` on.
+// Slices an array down to the `n` rows from row `at` on. Fails with `Case` if they do not exist.
 fn cut_rows(array: BooleanArray, at: usize, n: usize) -> Result<BooleanArray, Fault> {
     let mut array = array;
     if at > array.len() || n > array.len() - at {

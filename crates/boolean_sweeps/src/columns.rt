@@ -1,14 +1,14 @@
-//! The lengths, bit offsets and distributions of rows of a sweep.
+//! The array lengths, the bit offsets and the distributions of rows that a sweep uses.
 
 use crate::column::Sort;
 
 /// The lengths of arrays.
 pub const LENGTHS: [usize; 8] = [0, 1, 63, 64, 65, 127, 128, 129];
 
-/// The number of bit offsets of arrays: 0 to 65.
+/// The number of bit offsets at which arrays begin: 0 to 65.
 pub const OFFSETS: usize = 66;
 
-/// Arbitrary truth values, without a validity.
+/// Random truth values, without a validity.
 pub const PLAIN: Sort = Sort {
     has_validity: false,
     nulls: 0,
@@ -22,21 +22,21 @@ pub const ALL_TRUE: Sort = Sort {
     trues: 32,
 };
 
-/// Rows, about half of them null.
+/// Rows of which about half are null. The others are random.
 pub const HALF_NULL: Sort = Sort {
     has_validity: true,
     nulls: 16,
     trues: 16,
 };
 
-/// Rows, about half of them null, and the others true.
+/// Rows of which about half are null. The others are true.
 pub const NULL_OR_TRUE: Sort = Sort {
     has_validity: true,
     nulls: 16,
     trues: 32,
 };
 
-/// Rows, most of them null, and the others false.
+/// Rows of which most are null. The others are false.
 pub const FEW_FALSE: Sort = Sort {
     has_validity: true,
     nulls: 29,
@@ -50,8 +50,8 @@ pub const ALL_NULL: Sort = Sort {
     trues: 16,
 };
 
-/// Returns the bit offset of the validity of an array of a pair. It is different for each bit
-/// offset of the values.
+/// Returns the bit offset of the validity of an array whose values begin at bit `values`. Each
+/// offset of values has another offset of the validity.
 pub fn validity_offset(values: usize) -> usize {
     values.saturating_mul(7).saturating_add(3) % OFFSETS
 }

@@ -1,4 +1,4 @@
-//! Counts of the bits of each row: a truth value is one bit.
+//! Kernels that count bits of each row. A truth value is a single bit.
 
 use crate::column::Column;
 use crate::mask::masked;
@@ -10,7 +10,7 @@ use polars_compute_reductions::bitwise::BitwiseKernel;
 use recorded_text::fault::Fault;
 use std::alloc::Global;
 
-/// A count.
+/// A kernel that counts bits of each row.
 #[derive(Clone, Copy)]
 pub enum Count {
     Ones,
@@ -21,7 +21,7 @@ pub enum Count {
     TrailingZeros,
 }
 
-/// The counts by name.
+/// The kernels, with the names that are printed.
 pub const COUNTS: [(&str, Count); 6] = [
     ("count_ones", Count::Ones),
     ("count_zeros", Count::Zeros),
@@ -32,7 +32,7 @@ pub const COUNTS: [(&str, Count); 6] = [
 ];
 
 impl Count {
-    // Returns the count of a row, or `None` if it is null.
+    // Returns the expected count of a row, or `None` if the row is null.
     fn of(self, row: Option<bool>) -> Option<u32> {
         let truth = row?;
         let counted = match self {
@@ -42,7 +42,7 @@ impl Count {
         Some(u32::from(counted))
     }
 
-    // Calls it.
+    // Calls the kernel.
     fn call(self, alloc: Global, array: &BooleanArray) -> Result<PrimitiveArray<u32>, Fault> {
         let counted = match self {
             Count::Ones => array.count_ones(alloc),
@@ -56,7 +56,7 @@ impl Count {
     }
 }
 
-/// Makes the calls on an array.
+/// Calls each kernel on an array, and compares the results with the counts of the rows.
 pub fn ask(alloc: Global, tallies: &mut [Tally<Count>], column: &Column) -> Result<(), Fault> {
     for tally in tallies.iter_mut() {
         let counted = tally.call.call(alloc, column.array())?;
@@ -65,7 +65,7 @@ pub fn ask(alloc: Global, tallies: &mut [Tally<Count>], column: &Column) -> Resu
     Ok(())
 }
 
-// Compares the counts with those of the rows.
+// Compares the counts of a kernel with the expected counts of the rows.
 fn compare_rows(counts: &mut Counts, count: Count, column: &Column, counted: &PrimitiveArray<u32>) {
     counts.begin_call(counted.len() == column.rows().len());
     for (i, row) in column.rows().iter().enumerate() {

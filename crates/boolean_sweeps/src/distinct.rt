@@ -1,4 +1,4 @@
-//! Distinct truth values, by a kernel of arrays and by states.
+//! Kernels for distinct truth values: those of arrays, and those of states.
 
 use crate::column::Column;
 use crate::mask::masked;
@@ -10,7 +10,7 @@ use polars_compute_unique::kernel::{GenericUniqueKernel, RangedUniqueKernel};
 use recorded_text::fault::Fault;
 use std::alloc::{AllocError, Global};
 
-/// A call on distinct rows.
+/// A kernel that returns or counts distinct rows.
 #[derive(Clone, Copy)]
 pub enum Distinct {
     Unique,
@@ -22,7 +22,7 @@ pub enum Distinct {
     FinalizeNUniqueNonNull,
 }
 
-/// The calls by name.
+/// The kernels, with the names that are printed.
 pub const DISTINCT: [(&str, Distinct); 7] = [
     ("unique", Distinct::Unique),
     ("n_unique", Distinct::NUnique),
@@ -36,7 +36,7 @@ pub const DISTINCT: [(&str, Distinct); 7] = [
     ),
 ];
 
-/// Makes the calls on an array.
+/// Calls each kernel on an array, and compares the result with the distinct rows of the list.
 pub fn ask(alloc: Global, tallies: &mut [Tally<Distinct>], column: &Column) -> Result<(), Fault> {
     let expected = distinct_rows(alloc, column.rows())?;
     for tally in tallies.iter_mut() {
@@ -47,7 +47,7 @@ pub fn ask(alloc: Global, tallies: &mut [Tally<Distinct>], column: &Column) -> R
     Ok(())
 }
 
-// Returns the distinct rows: false, true and null, those that there are.
+// Returns the distinct rows in the order false, true, null.
 fn distinct_rows(alloc: Global, rows: &[Option<bool>]) -> Result<Vec<Option<bool>>, AllocError> {
     let mut distinct = Vec::new(alloc);
     for row in [Some(false), Some(true), None] {
@@ -58,7 +58,7 @@ fn distinct_rows(alloc: Global, rows: &[Option<bool>]) -> Result<Vec<Option<bool
     Ok(distinct)
 }
 
-// Returns whether the result of a call is that of the distinct rows.
+// Calls a kernel, and returns whether the result is right for the distinct rows `expected`.
 fn agrees(
     alloc: Global,
     call: Distinct,
@@ -80,7 +80,8 @@ fn agrees(
     Ok(agrees)
 }
 
-// Returns a state to which an array was appended by way of another state.
+// Returns a state that has seen the rows of an array. They are appended to another state, which is
+// then merged into this one.
 fn state_of(array: &BooleanArray) -> BooleanUniqueKernelState {
     let mut state = BooleanUniqueKernelState::new();
     let mut other = BooleanUniqueKernelState::new();
@@ -100,7 +101,7 @@ fn present_rows(distinct: &[Option<bool>]) -> usize {
         .saturating_sub(usize::from(distinct.contains(&None)))
 }
 
-// Returns whether an array has these rows.
+// Returns whether an array has exactly these rows.
 fn has_rows(array: &BooleanArray, rows: &[Option<bool>]) -> bool {
     let mut agrees = array.len() == rows.len();
     for (i, row) in rows.iter().enumerate() {

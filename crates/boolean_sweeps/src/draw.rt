@@ -1,21 +1,21 @@
-//! Pseudorandom truth values, the same in each run.
+//! Pseudorandom truth values. They are the same in each run.
 
-// Constants of a linear congruential generator of 64 bits.
+// The constants of a linear congruential generator of 64 bits.
 const FACTOR: u64 = 6_364_136_223_846_793_005;
 
 const TERM: u64 = 1_442_695_040_888_963_407;
 
-/// The number of chances: a truth value is true in none to all of them.
+/// The number of chances. A truth value drawn with all of them is always true.
 pub const CHANCES: u64 = 32;
 
-/// A generator of truth values.
+/// A generator of pseudorandom truth values.
 #[derive(Drop)]
 pub struct Draw {
     state: u64,
 }
 
 impl Draw {
-    /// Creates the generator of a place, which is given by numbers.
+    /// Creates a generator whose seed is made of the numbers in `place`.
     pub fn new(place: &[usize]) -> Draw {
         let mut draw = Draw { state: 0 };
         for number in place {
@@ -25,12 +25,12 @@ impl Draw {
         draw
     }
 
-    // Advances to the next number.
+    // Advances the generator by one step.
     fn step(&mut self) {
         self.state = self.state.wrapping_mul(FACTOR).wrapping_add(TERM);
     }
 
-    /// Returns true in about `chances` of 32 calls.
+    /// Returns a truth value that is true in about `chances` of 32 calls.
     pub fn truth(&mut self, chances: u64) -> bool {
         self.step();
         self.state >> 59 < chances

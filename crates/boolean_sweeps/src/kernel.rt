@@ -1,6 +1,6 @@
 //! The kernels that compare rows, and their expected results.
 
-/// A kernel that compares rows.
+/// A kernel that compares the rows of two arrays, or the rows of an array with a truth value.
 #[derive(Clone, Copy)]
 pub enum Kernel {
     Equal,
@@ -14,7 +14,8 @@ pub enum Kernel {
 }
 
 impl Kernel {
-    /// Returns the bit of two rows, or `None` if none is promised.
+    /// Returns the expected bit for two rows, or `None` if a row is null and the kernel promises
+    /// nothing about nulls.
     pub fn bit(self, left: Option<bool>, right: Option<bool>) -> Option<bool> {
         match self {
             Kernel::EqualMissing => Some(left == right),
@@ -23,7 +24,7 @@ impl Kernel {
         }
     }
 
-    // Returns whether a comparison holds of two present rows. False is less than true.
+    // Returns whether the comparison is true for two present rows. False is less than true.
     fn holds(self, left: bool, right: bool) -> bool {
         match self {
             Kernel::Equal | Kernel::EqualMissing => left == right,

@@ -1,14 +1,14 @@
-//! The kernels of `BooleanArray` at all pairs of bit offsets, compared with rows in a list.
+//! Calls the kernels of `BooleanArray` at all pairs of bit offsets, and checks each result.
 //!
-//! Each array is created from a list of rows, and the expected result of each call is computed from
-//! that list, row by row, without bitmaps or kernels. The values of an array begin at one of 66
-//! bits, and its validity at another. The bits before and after them, and the values of nulls, are
-//! pseudorandom, or the opposite of the rows.
+//! Each array is created from a list of rows. The expected result of each call is computed from the
+//! list, row by row, without bitmaps and without kernels. The values of an array begin at one of 66
+//! bit offsets, and its validity at another one. All other bits of the two bitmaps, and the values
+//! of nulls, are pseudorandom, or the opposite of the rows.
 //!
-//! For each call the program prints the number of calls, the number of results (one for each row,
-//! or one for an array), the number of results that are promised and were compared, and the number
-//! of those that differ. The last lines are those of lists with one wrong row, so that results must
-//! differ. `tests/outside/boolean_sweeps.py` computes and prints the same lines independently.
+//! For each kernel the program prints the number of calls, the number of results (one for each row,
+//! or one for an array), the number of results that were compared because they are promised, and
+//! the number of results that differ. In the last lines the list has one wrong row, so that results
+//! must differ. `tests/outside/boolean_sweeps.py` computes and prints the same lines independently.
 #![tactic(auto)]
 
 use recorded_text::fault::Fault;
@@ -28,7 +28,7 @@ mod singles;
 mod tally;
 mod turned;
 
-// Makes all calls, and prints the counts.
+// Calls all kernels, and prints the counts.
 fn sweep_all(rt: &(impl Print + AllocGlobal)) -> Result<(), Fault> {
     pairs::sweep(rt)?;
     singles::sweep(rt)?;

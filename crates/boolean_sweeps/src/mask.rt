@@ -1,8 +1,8 @@
-//! Values under a validity.
+//! Access to values under a validity.
 
 use polars_arrays_bits::bitmap::Bitmap;
 
-/// Returns the value of row `i`, or `None` if the validity masks it.
+/// Returns `value`, the value of row `i`, or `None` if the row is null by the validity.
 pub fn masked<T: Copy>(value: Option<T>, validity: Option<&Bitmap>, i: usize) -> Option<T> {
     match validity {
         Some(validity) if validity.get(i) != Some(true) => None,

@@ -1,4 +1,4 @@
-//! Kernels of two arrays, at each pair of bit offsets.
+//! Kernels that compare two arrays, at each pair of bit offsets.
 
 use crate::column::{Column, Place, Sort};
 use crate::columns::{ALL_TRUE, FEW_FALSE, HALF_NULL, LENGTHS, OFFSETS, PLAIN, validity_offset};
@@ -14,7 +14,7 @@ use polars_compare_order::kernel::TotalOrdKernel;
 use recorded_text::fault::Fault;
 use std::alloc::Global;
 
-/// The kernels by name.
+/// The kernels, with the names that are printed.
 const KERNELS: [(&str, Kernel); 8] = [
     ("tot_eq_kernel", Kernel::Equal),
     ("tot_ne_kernel", Kernel::Unequal),
@@ -26,7 +26,7 @@ const KERNELS: [(&str, Kernel); 8] = [
     ("tot_ge_kernel", Kernel::GreaterOrEqual),
 ];
 
-/// The rows of the left and the right arrays, by rounds.
+/// The distributions of the left and of the right rows, by round.
 const ROUNDS: [(Sort, Sort); 5] = [
     (PLAIN, PLAIN),
     (HALF_NULL, HALF_NULL),
@@ -35,7 +35,7 @@ const ROUNDS: [(Sort, Sort); 5] = [
     (PLAIN, FEW_FALSE),
 ];
 
-/// Makes the calls at all pairs of offsets, and prints the counts.
+/// Calls all kernels at all pairs of bit offsets, and prints the counts.
 pub fn sweep(rt: &(impl Print + AllocGlobal)) -> Result<(), Fault> {
     let alloc = rt.alloc();
     let mut tallies = begin(alloc, &KERNELS)?;
@@ -45,7 +45,7 @@ pub fn sweep(rt: &(impl Print + AllocGlobal)) -> Result<(), Fault> {
     print(rt, &tallies)
 }
 
-// Makes the calls on arrays of each length.
+// Calls all kernels on arrays of each length.
 fn sweep_round(
     alloc: Global,
     tallies: &mut [Tally<Kernel>],
@@ -61,7 +61,8 @@ fn sweep_round(
     Ok(())
 }
 
-// Creates an array for each offset.
+// Creates an array for each bit offset. `round_side` is the round, and 0 for the left or 1 for the
+// right side; it becomes part of the random seed.
 fn columns(
     alloc: Global,
     sort: Sort,
@@ -75,7 +76,7 @@ fn columns(
     Ok(columns)
 }
 
-// Creates the array of an offset.
+// Creates the array whose values begin at bit `values`, and appends it to `columns`.
 fn push_column(
     alloc: Global,
     columns: &mut Vec<Column>,
@@ -92,7 +93,7 @@ fn push_column(
     Ok(columns.push(column)?)
 }
 
-// Makes the calls on each left array and each right one.
+// Calls all kernels on each pair of a left and a right array.
 fn ask_pairs(
     alloc: Global,
     tallies: &mut [Tally<Kernel>],
@@ -107,7 +108,7 @@ fn ask_pairs(
     Ok(())
 }
 
-// Makes the calls on two arrays.
+// Calls all kernels on two arrays, and compares the results with the lists of rows.
 fn ask_all(
     alloc: Global,
     tallies: &mut [Tally<Kernel>],
@@ -121,7 +122,7 @@ fn ask_all(
     Ok(())
 }
 
-// Calls a kernel. The error is `Case`, if the lengths differ.
+// Calls a kernel on two arrays. Fails with `Case` if their lengths differ.
 fn call(
     alloc: Global,
     kernel: Kernel,
@@ -144,7 +145,7 @@ fn call(
     Ok(bits?)
 }
 
-// Compares the bits of a kernel with the expected ones.
+// Compares the bits that a kernel returned with the expected ones.
 fn compare_bits(counts: &mut Counts, kernel: Kernel, left: &Column, right: &Column, bits: &Bitmap) {
     let rows = left.rows().iter().zip(right.rows());
     counts.begin_call(bits.len() == left.rows().len());
@@ -153,8 +154,9 @@ fn compare_bits(counts: &mut Counts, kernel: Kernel, left: &Column, right: &Colu
     }
 }
 
-/// Makes the calls twice on two arrays of true rows. In the list of rows, row 100 is false, once of
-/// the right array and once of the left one.
+/// Calls all kernels twice on two arrays of true rows, and prints the counts. In the first round,
+/// row 100 is wrong in the list of the right array, and in the second round in that of the left
+/// array.
 pub fn sweep_turned(rt: &(impl Print + AllocGlobal)) -> Result<(), Fault> {
     let alloc = rt.alloc();
     let mut tallies = begin(alloc, &KERNELS)?;

@@ -1,4 +1,4 @@
-//! Reductions and extremes of the present rows of an array.
+//! Kernels that reduce the present rows of an array, or find the least or the greatest one.
 
 use crate::column::Column;
 use crate::tally::Tally;
@@ -6,7 +6,7 @@ use polars_arrays_flat::boolean::BooleanArray;
 use polars_compare_extremes::kernel::MinMaxKernel;
 use polars_compute_reductions::bitwise::BitwiseKernel;
 
-/// A reduction of the present rows.
+/// A kernel that reduces the present rows of an array.
 #[derive(Clone, Copy)]
 pub enum Reduction {
     And,
@@ -20,7 +20,7 @@ pub enum Reduction {
     MinMaxPropagate,
 }
 
-/// The calls by name.
+/// The kernels, with the names that are printed.
 pub const REDUCTIONS: [(&str, Reduction); 9] = [
     ("reduce_and", Reduction::And),
     ("reduce_or", Reduction::Or),
@@ -33,11 +33,12 @@ pub const REDUCTIONS: [(&str, Reduction); 9] = [
     ("min_max_propagate_nan_kernel", Reduction::MinMaxPropagate),
 ];
 
-/// The result of a call: two truth values, or one of them twice.
+/// The result of a kernel: two truth values, or `None` if no row is present. A single truth value
+/// is stored twice.
 type Pair = Option<(bool, bool)>;
 
 impl Reduction {
-    // Calls it. A single truth value is returned twice.
+    // Calls the kernel on an array.
     fn call(self, array: &BooleanArray) -> Pair {
         match self {
             Reduction::And => twice(array.reduce_and()),
@@ -52,7 +53,7 @@ impl Reduction {
         }
     }
 
-    // Returns the reduction of two pairs of reduced rows.
+    // Joins two expected results.
     fn join(self, left: (bool, bool), right: (bool, bool)) -> (bool, bool) {
         match self {
             Reduction::And | Reduction::Min | Reduction::MinPropagate => {
@@ -68,7 +69,7 @@ impl Reduction {
         }
     }
 
-    // Returns the reduction of rows.
+    // Returns the expected result for a list of rows, or `None` if all rows are null.
     fn of(self, rows: &[Option<bool>]) -> Pair {
         let mut reduced = None;
         for row in rows {
@@ -82,13 +83,13 @@ impl Reduction {
     }
 }
 
-// Returns a truth value twice.
+// Returns a pair of a truth value and itself, or `None` for `None`.
 fn twice(truth: Option<bool>) -> Pair {
     let truth = truth?;
     Some((truth, truth))
 }
 
-/// Makes the calls on an array.
+/// Calls each kernel on an array, and compares the result with the list of rows.
 pub fn ask(tallies: &mut [Tally<Reduction>], column: &Column) {
     for tally in tallies.iter_mut() {
         let expected = tally.call.of(column.rows());

@@ -1,4 +1,4 @@
-//! Kernels of an array and a truth value.
+//! Kernels that compare an array with a truth value.
 
 use crate::column::Column;
 use crate::kernel::Kernel;
@@ -10,7 +10,7 @@ use polars_compare_order::kernel::TotalOrdKernel;
 use recorded_text::fault::Fault;
 use std::alloc::Global;
 
-/// The kernels by name.
+/// The kernels, with the names that are printed.
 pub const KERNELS: [(&str, Kernel); 8] = [
     ("tot_eq_kernel_broadcast", Kernel::Equal),
     ("tot_ne_kernel_broadcast", Kernel::Unequal),
@@ -22,7 +22,8 @@ pub const KERNELS: [(&str, Kernel); 8] = [
     ("tot_ge_kernel_broadcast", Kernel::GreaterOrEqual),
 ];
 
-/// Makes the calls on an array and each of the two truth values.
+/// Calls each kernel on an array and each of the two truth values, and compares the results with
+/// the list of rows.
 pub fn ask(alloc: Global, tallies: &mut [Tally<Kernel>], column: &Column) -> Result<(), Fault> {
     for scalar in [false, true] {
         for tally in tallies.iter_mut() {
@@ -33,7 +34,7 @@ pub fn ask(alloc: Global, tallies: &mut [Tally<Kernel>], column: &Column) -> Res
     Ok(())
 }
 
-// Calls a kernel.
+// Calls a kernel on an array and a truth value.
 fn call(
     alloc: Global,
     kernel: Kernel,
@@ -53,7 +54,7 @@ fn call(
     Ok(bits?)
 }
 
-// Compares the bits of a kernel with the expected ones.
+// Compares the bits that a kernel returned with the expected ones.
 fn compare_bits(counts: &mut Counts, kernel: Kernel, column: &Column, scalar: bool, bits: &Bitmap) {
     counts.begin_call(bits.len() == column.rows().len());
     for (i, row) in column.rows().iter().enumerate() {

@@ -1,4 +1,4 @@
-//! Calls of one array, at each bit offset of its values and each of its validity.
+//! Kernels of a single array, at each pair of bit offsets of its values and its validity.
 
 use crate::column::{Column, Place, Sort};
 use crate::columns::{
@@ -14,7 +14,7 @@ use crate::tally::{Tally, begin, print};
 use recorded_text::fault::Fault;
 use std::alloc::Global;
 
-/// The rows of the arrays, by rounds.
+/// The distributions of rows, by round.
 const ROUNDS: [Sort; 6] = [
     PLAIN,
     ALL_TRUE,
@@ -24,7 +24,7 @@ const ROUNDS: [Sort; 6] = [
     ALL_NULL,
 ];
 
-/// The counts of each call.
+/// The counts of all kernels of a single array.
 #[derive(Drop)]
 pub struct Singles {
     broadcasts: Vec<Tally<Kernel>>,
@@ -34,7 +34,7 @@ pub struct Singles {
 }
 
 impl Singles {
-    /// Creates counts before the first call.
+    /// Creates counts that are all 0.
     pub fn new(alloc: Global) -> Result<Singles, Fault> {
         let broadcasts = begin(alloc, &scalars::KERNELS)?;
         let counts = begin(alloc, &counts::COUNTS)?;
@@ -48,7 +48,7 @@ impl Singles {
         })
     }
 
-    /// Makes the calls on an array.
+    /// Calls all kernels on an array.
     pub fn ask(&mut self, alloc: Global, column: &Column) -> Result<(), Fault> {
         scalars::ask(alloc, &mut self.broadcasts, column)?;
         counts::ask(alloc, &mut self.counts, column)?;
@@ -56,7 +56,7 @@ impl Singles {
         distinct::ask(alloc, &mut self.distinct, column)
     }
 
-    /// Prints the counts.
+    /// Prints the counts of each kernel.
     pub fn print(&self, rt: &impl Print) -> Result<(), Fault> {
         print(rt, &self.broadcasts)?;
         print(rt, &self.counts)?;
@@ -65,7 +65,7 @@ impl Singles {
     }
 }
 
-/// Makes the calls at all pairs of offsets, and prints the counts.
+/// Calls all kernels at all pairs of bit offsets, and prints the counts.
 pub fn sweep(rt: &(impl Print + AllocGlobal)) -> Result<(), Fault> {
     let mut singles = Singles::new(rt.alloc())?;
     for (round, sort) in ROUNDS.iter().enumerate() {
@@ -74,7 +74,7 @@ pub fn sweep(rt: &(impl Print + AllocGlobal)) -> Result<(), Fault> {
     singles.print(rt)
 }
 
-// Makes the calls on arrays of each length.
+// Calls all kernels on arrays of each length.
 fn sweep_round(
     alloc: Global,
     singles: &mut Singles,
@@ -89,7 +89,8 @@ fn sweep_round(
     Ok(())
 }
 
-// Makes the calls on arrays whose values begin at one bit, and whose validities begin at each bit.
+// Calls all kernels on arrays whose values begin at bit `values`, and whose validity begins at each
+// bit offset.
 fn sweep_offset(
     alloc: Global,
     singles: &mut Singles,

@@ -1,10 +1,10 @@
-//! Counts of the compared results of a call, and of those that differ.
+//! The counts of a kernel: its results, those that were compared, and those that differ.
 
 use polars_arrays_bits::bitmap::Bitmap;
 use recorded_text::fault::Fault;
 use std::alloc::{AllocError, Global};
 
-/// The counts of the results of a call.
+/// The counts of the results of a kernel.
 #[derive(Drop)]
 pub struct Counts {
     calls: u64,
@@ -14,7 +14,7 @@ pub struct Counts {
 }
 
 impl Counts {
-    // Returns the counts before the first call.
+    // Creates counts that are all 0.
     fn new() -> Counts {
         Counts {
             calls: 0,
@@ -24,30 +24,32 @@ impl Counts {
         }
     }
 
-    /// Counts one more call, and whether the number of its results is right.
+    /// Counts a call. If `is_whole` is false, the result has a wrong length, and a difference is
+    /// counted.
     pub fn begin_call(&mut self, is_whole: bool) {
         self.calls = self.calls.saturating_add(1);
         self.note(is_whole);
     }
 
-    // Counts a difference.
+    // Counts a difference, unless `agrees` is true.
     fn note(&mut self, agrees: bool) {
         self.differ = self.differ.saturating_add(u64::from(!agrees));
     }
 
-    /// Counts a result, and whether it is as expected.
+    /// Counts a result that was compared, and a difference, unless `agrees` is true.
     pub fn compare(&mut self, agrees: bool) {
         self.answers = self.answers.saturating_add(1);
         self.compared = self.compared.saturating_add(1);
         self.note(agrees);
     }
 
-    /// Counts a result about which nothing is promised.
+    /// Counts a result about which the kernel promises nothing.
     pub fn pass_over(&mut self) {
         self.answers = self.answers.saturating_add(1);
     }
 
-    /// Counts bit `i` of a result.
+    /// Compares bit `i` of a result with the expected bit, and counts it. If `expected` is `None`,
+    /// the bit is only counted as a result.
     pub fn compare_bit(&mut self, expected: Option<bool>, bits: &Bitmap, i: usize) {
         match expected {
             Some(_) => self.compare(bits.get(i) == expected),
@@ -56,7 +58,7 @@ impl Counts {
     }
 }
 
-/// A call, and its counts.
+/// A kernel, its name, and the counts of its results.
 #[derive(Drop)]
 pub struct Tally<C: Copy> {
     pub name: &'static str,
@@ -64,7 +66,7 @@ pub struct Tally<C: Copy> {
     pub counts: Counts,
 }
 
-/// Creates the tallies of calls.
+/// Creates a tally for each kernel. All counts are 0.
 pub fn begin<C: Copy>(
     alloc: Global,
     calls: &[(&'static str, C)],
@@ -81,7 +83,7 @@ pub fn begin<C: Copy>(
     Ok(tallies)
 }
 
-/// Prints a line for each call.
+/// Prints a line for each kernel.
 pub fn print<C: Copy>(rt: &impl Print, tallies: &[Tally<C>]) -> Result<(), Fault> {
     for tally in tallies {
         print_line(rt, tally.name, &tally.counts)?;
@@ -89,7 +91,7 @@ pub fn print<C: Copy>(rt: &impl Print, tallies: &[Tally<C>]) -> Result<(), Fault
     Ok(())
 }
 
-// Prints the line of a call.
+// Prints the line of a kernel.
 fn print_line(rt: &impl Print, name: &str, counts: &Counts) -> Result<(), Fault> {
     let Counts {
         calls,

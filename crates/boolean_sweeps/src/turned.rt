@@ -1,4 +1,5 @@
-//! Lists with one wrong row, so that results must differ.
+//! Checks that the sweeps find faults: lists of rows with one wrong row, so that results must
+//! differ.
 
 use crate::column::{Column, Place};
 use crate::columns::HALF_NULL;
@@ -8,7 +9,7 @@ use crate::singles::Singles;
 use recorded_text::fault::Fault;
 use std::alloc::Global;
 
-/// Makes all calls on such rows, and prints the counts.
+/// Calls all kernels on arrays whose lists have a wrong row, and prints the counts.
 pub fn sweep(rt: &(impl Print + AllocGlobal)) -> Result<(), Fault> {
     println!(rt; "Row 100 told wrong, of the right array and then of the left:")?;
     pairs::sweep_turned(rt)?;
@@ -20,7 +21,7 @@ pub fn sweep(rt: &(impl Print + AllocGlobal)) -> Result<(), Fault> {
     singles.print(rt)
 }
 
-// Makes the calls on an array of rows, whose list has a wrong first row.
+// Creates an array of the rows, makes the first row of its list wrong, and calls all kernels.
 fn ask(alloc: Global, singles: &mut Singles, rows: &[Option<bool>]) -> Result<(), Fault> {
     let place = Place {
         values: 62,
