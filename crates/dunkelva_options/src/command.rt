@@ -1,11 +1,11 @@
-//! The command line.
+//! The parser of the command line.
 
 use crate::options::{CliOption, Takes, options};
 use crate::schema_command::schema_command;
 use clap::{Arg, ArgAction, Command};
 use std::alloc::{AllocError, Global};
 
-/// The version of the program. `CHANGELOG.md` says what each version brought.
+/// The version of the program. `CHANGELOG.md` lists the changes of each version.
 const VERSION: &str = "0.1.0";
 
 /// The text after the options in `dunkelva diff --help`.
@@ -20,7 +20,8 @@ in which [] is every item, as items[].price. --common, --numbers, --text,
 The status is 0 where the files are the same, 1 where they differ, and 2 where
 they can't be compared.";
 
-/// Returns an argument that takes what its option does.
+/// Sets the values that an argument takes, as `takes` says: none, one, a number, one of some words,
+/// or one or more.
 fn taking<'a>(arg: Arg<'a>, takes: Takes) -> Arg<'a> {
     match takes {
         Takes::Nothing => arg.action(ArgAction::SetTrue),
@@ -31,7 +32,7 @@ fn taking<'a>(arg: Arg<'a>, takes: Takes) -> Arg<'a> {
     }
 }
 
-/// Returns the argument that an option is.
+/// Creates the argument of an option, with all its properties.
 fn arg_of<'a>(alloc: Global, option: CliOption) -> Result<Arg<'a>, AllocError> {
     let mut arg = taking(Arg::new(alloc, option.id), option.takes)
         .long(option.id)
@@ -54,7 +55,8 @@ fn arg_of<'a>(alloc: Global, option: CliOption) -> Result<Arg<'a>, AllocError> {
     }
 }
 
-/// Returns an input, which is a file or standard input.
+/// Creates the positional argument of an input, which is a file or standard input. It is required
+/// unless `--config` is given.
 fn input<'a>(
     alloc: Global,
     id: &'a str,
@@ -67,7 +69,7 @@ fn input<'a>(
         .required_unless_present("config")
 }
 
-/// Adds an input to a command.
+/// Adds the positional argument of an input to a command.
 fn with_input<'a>(
     alloc: Global,
     command: Command<'a>,
@@ -87,7 +89,7 @@ pub(crate) fn with_option<'a>(
     command.arg(arg_of(alloc, option)?)
 }
 
-/// Adds options to a command.
+/// Adds options to a command, in order.
 fn with_options<'a>(
     alloc: Global,
     command: Command<'a>,
@@ -100,7 +102,7 @@ fn with_options<'a>(
     Ok(command)
 }
 
-/// Returns the command that compares two files.
+/// Creates the command `dunkelva diff`, which compares two files.
 fn diff<'a>(alloc: Global) -> Result<Command<'a>, AllocError> {
     let command = Command::new(alloc, "diff")
         .about("Compares two CSV or NDJSON files by key, and prints what differs")
@@ -112,12 +114,12 @@ fn diff<'a>(alloc: Global) -> Result<Command<'a>, AllocError> {
     with_options(alloc, command, options())
 }
 
-/// Adds the command that prints the schema of a file.
+/// Adds the command `dunkelva schema`, which prints the schema of a file.
 fn with_schema<'a>(alloc: Global, command: Command<'a>) -> Result<Command<'a>, AllocError> {
     command.subcommand(schema_command(alloc)?)
 }
 
-/// Returns the command line of the program.
+/// Creates the parser of the program's command line.
 pub fn command<'a>(alloc: Global) -> Result<Command<'a>, AllocError> {
     let diff = diff(alloc)?;
     let command = Command::new(alloc, "dunkelva")
