@@ -1,7 +1,7 @@
-//! Options that a file sets.
+//! Options that are set in a file, which `--config` names.
 //!
-//! The file is TOML. It has each option by its name, and the two files as `left` and `right`.
-//! Options of the command line take the place of those that the file sets.
+//! The file is in TOML. It sets options by their names, and the two input files as `left` and
+//! `right`. Options on the command line override those in the file.
 
 use crate::given::{is_given, split_word};
 use crate::options::{CliOption, Takes, options};
@@ -15,23 +15,23 @@ use std::fmt::{Display, Formatter};
 use std::{fmt, fs};
 use toml::{Table, Value};
 
-/// The settings of a file.
+/// The settings in a config file.
 #[derive(Drop)]
 pub struct Config {
-    /// Its options, as words of a command line.
+    /// The options in the file, as command-line arguments such as `--key=id`.
     pub words: Vec<String>,
-    /// The first file, if it is set.
+    /// The name of the first input file, if the file sets it.
     pub left: Option<String>,
-    /// The second file, if it is set.
+    /// The name of the second input file, if the file sets it.
     pub right: Option<String>,
 }
 
-/// Returns the error for a value that its option does not take.
+/// Returns the error for a value of the wrong type. `takes` says what the option `name` takes.
 fn misfit(name: &str, takes: &str, value: &Value) -> Error {
     trouble!("{name} takes {takes}, not this {}", value.type_str())
 }
 
-/// Returns the text that a value is.
+/// Returns the text of a string value. Fails if the value is not a string.
 fn text_of<'a>(name: &str, value: &'a Value) -> Result<&'a str> {
     match value.as_str() {
         Some(text) => Ok(text),
@@ -39,7 +39,8 @@ fn text_of<'a>(name: &str, value: &'a Value) -> Result<&'a str> {
     }
 }
 
-/// Appends the word of an option that takes nothing, where it is set.
+/// Appends the argument `--name` if the value is true, and nothing if it is false. Fails if the
+/// value is not a truth value.
 fn push_switch(words: &mut Vec<String>, alloc: Global, name: &str, value: &Value) -> Result<()> {
     match value.as_bool() {
         Some(true) => words.push(format!(in alloc; "--{name}")?)?,
@@ -49,7 +50,7 @@ fn push_switch(words: &mut Vec<String>, alloc: Global, name: &str, value: &Value
     Ok(())
 }
 
-/// Appends the word that gives an option this value.
+/// Appends the argument `--name=value`.
 fn push_word<V: Display + Drop>(
     words: &mut Vec<String>,
     alloc: Global,
@@ -60,12 +61,12 @@ fn push_word<V: Display + Drop>(
     Ok(())
 }
 
-/// Appends the word of an option that takes a text.
+/// Appends the argument of an option that takes a text. Fails if the value is not a string.
 fn push_text(words: &mut Vec<String>, alloc: Global, name: &str, value: &Value) -> Result<()> {
     push_word(words, alloc, name, text_of(name, value)?)
 }
 
-/// The words that an option takes, in a message.
+/// The values that an option accepts, displayed as `text or json`.
 #[derive(Clone, Copy)]
 struct Choices<'a>(&'a [&'a str]);
 
@@ -79,7 +80,8 @@ impl Display for Choices<'_> {
     }
 }
 
-/// Appends the word of an option that takes one of some words.
+/// Appends the argument of an option whose value is one of `choices`. Fails if the value is not one
+/// of these strings.
 fn push_choice(
     words: &mut Vec<String>,
     alloc: Global,
@@ -98,7 +100,7 @@ fn push_choice(
     }
 }
 
-/// Appends the word of an option that takes a number.
+/// Appends the argument of an option that takes a number. Fails if the value is not an integer.
 fn push_number(words: &mut Vec<String>, alloc: Global, name: &str, value: &Value) -> Result<()> {
     match value.as_integer() {
         Some(number) => push_word(words, alloc, name, number),
@@ -106,8 +108,8 @@ fn push_number(words: &mut Vec<String>, alloc: Global, name: &str, value: &Value
     }
 }
 
-/// Returns the quotes that keep a name of a list whole on the command line, where it is cut at
-/// commas.
+/// Returns the quotes to put around a name in a comma-separated list: `"` if the name has a comma,
+/// and else nothing. A name that has quotes itself gets none.
 fn quotes_for(name: &str) -> &'static str {
     if name.contains(',') && !name.contains('"') {
         "\""
@@ -116,7 +118,8 @@ fn quotes_for(name: &str) -> &'static str {
     }
 }
 
-/// Appends a word for each text of a list. A text alone is a list of one.
+/// Appends an argument for each text of an array. A string is an array of one text. Fails if the
+/// value or an item is not a string.
 fn push_texts(words: &mut Vec<String>, alloc: Global, name: &str, value: &Value) -> Result<()> {
     let Some(items) = value.as_array() else {
         return push_text(words, alloc, name, value);
@@ -127,7 +130,7 @@ fn push_texts(words: &mut Vec<String>, alloc: Global, name: &str, value: &Value)
     Ok(())
 }
 
-/// Returns the text that an option takes in a list of names.
+/// Returns the text of a string value in a list of names. Fails if the value is not a string.
 fn name_in<'a>(name: &str, value: &'a Value) -> Result<&'a str> {
     match value.as_str() {
         Some(text) => Ok(text),
@@ -135,7 +138,8 @@ fn name_in<'a>(name: &str, value: &'a Value) -> Result<&'a str> {
     }
 }
 
-/// Appends a word for each name of a list. A text alone is a list as on the command line.
+/// Appends an argument for each name of an array. A string is appended unchanged: it may be a
+/// comma-separated list, as on the command line. Fails if the value or an item is not a string.
 fn push_names(words: &mut Vec<String>, alloc: Global, name: &str, value: &Value) -> Result<()> {
     let Some(items) = value.as_array() else {
         return push_word(words, alloc, name, name_in(name, value)?);
@@ -148,7 +152,8 @@ fn push_names(words: &mut Vec<String>, alloc: Global, name: &str, value: &Value)
     Ok(())
 }
 
-/// Appends the word of a bound at a path. A bound is no float, since its digits would be lost.
+/// Appends the argument `--name=path=bound`. The bound is a string or an integer. Fails for a
+/// float, since reading a float may have lost digits, and for other types.
 fn push_bound(
     words: &mut Vec<String>,
     alloc: Global,
@@ -170,8 +175,8 @@ fn push_bound(
     }
 }
 
-/// Appends the words of an option whose texts are paths and bounds: a table, or texts as on the
-/// command line.
+/// Appends an argument for each path and bound of a table such as `{ price = "0.01" }`. An array of
+/// texts such as `"price=0.01"`, or one such text, is appended as `push_texts` does.
 fn push_bounds(words: &mut Vec<String>, alloc: Global, name: &str, value: &Value) -> Result<()> {
     let Some(bounds) = value.as_table() else {
         return push_texts(words, alloc, name, value);
@@ -182,7 +187,7 @@ fn push_bounds(words: &mut Vec<String>, alloc: Global, name: &str, value: &Value
     Ok(())
 }
 
-/// Appends the words of an option that has this value.
+/// Appends the arguments that give an option this value. Fails if the option takes no such value.
 fn push_option(
     words: &mut Vec<String>,
     alloc: Global,
@@ -199,10 +204,11 @@ fn push_option(
     }
 }
 
-/// The option that names the file.
+/// The name of the option that names the config file.
 const CONFIG: &str = "config";
 
-/// Returns whether a file may have a setting of this name.
+/// Returns whether a config file may set `name`: an option other than `config`, or `left` or
+/// `right`.
 fn is_known(name: &str) -> bool {
     for option in options() {
         if option.id == name {
@@ -212,8 +218,8 @@ fn is_known(name: &str) -> bool {
     name == "left" || name == "right"
 }
 
-/// Returns the option whose name is nearly this one, if there is one. A name that differs by case
-/// or by underscores alone comes first.
+/// Returns the name of an option that is nearly `name`, or `None` if there is none. A name that
+/// differs only by case, or by underscores for hyphens, is preferred.
 pub(crate) fn option_near(name: &str) -> Option<&'static str> {
     let mut near = None;
     for option in options() {
@@ -228,7 +234,7 @@ pub(crate) fn option_near(name: &str) -> Option<&'static str> {
     near
 }
 
-/// Refuses settings whose names are unknown.
+/// Fails if the table has a setting whose name is unknown. The error suggests a similar option.
 fn refuse_unknown(table: &Table) -> Result<()> {
     for (name, _) in table {
         if !is_known(name) {
@@ -242,14 +248,14 @@ fn refuse_unknown(table: &Table) -> Result<()> {
     Ok(())
 }
 
-/// Returns whether an option of the command line leaves out one of a file: it is the same, it may
-/// not be given with it, or it refuses it.
+/// Returns whether the option `other`, given on the command line, overrides the option `option` of
+/// a config file: they are the same option, one excludes the other, or `other` refuses `option`.
 fn leaves_out(other: &CliOption, option: &CliOption) -> bool {
     let is_apart = other.excludes.contains(&option.id) || option.excludes.contains(&other.id);
     other.id == option.id || is_apart || other.refuses.contains(&option.id)
 }
 
-/// Returns whether the words give an option that leaves out one of a file.
+/// Returns whether the command line `words` overrides the option `option` of a config file.
 fn is_replaced(words: &[String], option: &CliOption) -> bool {
     for other in options() {
         if leaves_out(other, option) && is_given(words, other.id) {
@@ -259,7 +265,8 @@ fn is_replaced(words: &[String], option: &CliOption) -> bool {
     false
 }
 
-/// Returns the name of the file that the words give with `--config`.
+/// Returns the path that the command line `words` gives with `--config`, or `None` if it gives
+/// none.
 fn file_given(words: &[String]) -> Option<&str> {
     for i in 0..words.len() {
         match split_word(&words[i]) {
@@ -272,7 +279,8 @@ fn file_given(words: &[String]) -> Option<&str> {
     None
 }
 
-/// Returns the text that a table has at a name, if it has one there.
+/// Returns a copy of the string that a table has at `name`, or `None` if it has no such member.
+/// Fails if the value is not a string.
 fn member_text(alloc: Global, table: &Table, name: &str) -> Result<Option<String>> {
     match table.get(name) {
         Some(value) => Ok(Some(String::from_str(alloc, text_of(name, value)?)?)),
@@ -280,7 +288,8 @@ fn member_text(alloc: Global, table: &Table, name: &str) -> Result<Option<String
     }
 }
 
-/// Returns the settings of a table, without the options that the command line gives.
+/// Returns the settings in a table. Options that the command line `given` overrides are left out.
+/// Fails if a name is unknown, or a value has a wrong type.
 fn config_of(alloc: Global, table: &Table, given: &[String]) -> Result<Config> {
     refuse_unknown(table)?;
     let mut words = Vec::new(alloc);
@@ -296,7 +305,7 @@ fn config_of(alloc: Global, table: &Table, given: &[String]) -> Result<Config> {
     Ok(Config { words, left, right })
 }
 
-/// Returns the line of a text in which the byte at a place stands, from 1 on.
+/// Returns the number of the line that has the byte at index `place`. The first line is 1.
 fn line_at(text: &str, place: usize) -> usize {
     let before = text.as_bytes().iter().take(place);
     before
@@ -305,7 +314,8 @@ fn line_at(text: &str, place: usize) -> usize {
         .saturating_add(1)
 }
 
-/// Returns whether a line of TOML sets a text without quotes, alone or in a list.
+/// Returns whether a line of TOML seems to set a text without quotes, such as `key = id` or `key =
+/// [id]`.
 fn lacks_quotes(line: &str) -> bool {
     let Some((_, value)) = line.split_once('=') else {
         return false;
@@ -320,7 +330,7 @@ fn lacks_quotes(line: &str) -> bool {
     is_word && !["true", "false", "inf", "nan"].contains(&word)
 }
 
-/// Returns the error for a text that is not TOML.
+/// Returns the error for a config file that is not TOML, with the number of the line.
 fn no_table(text: &str, error: &toml::de::Error) -> Error {
     let Some(span) = error.span() else {
         return trouble!("out of memory");
@@ -335,7 +345,8 @@ fn no_table(text: &str, error: &toml::de::Error) -> Error {
     trouble!("line {number}: {}", error.message())
 }
 
-/// Reads the settings of a file, without the options that the command line gives.
+/// Reads the settings in the file `path`. Options that the command line `given` overrides are left
+/// out. Fails if the file can't be read, is not TOML, or has a wrong setting.
 fn read_config(rt: &HostRuntime, path: &str, given: &[String]) -> Result<Config> {
     let text = fs::read_to_string(rt, path)?;
     match toml::table_from_str(rt.alloc(), &text) {
@@ -344,7 +355,8 @@ fn read_config(rt: &HostRuntime, path: &str, given: &[String]) -> Result<Config>
     }
 }
 
-/// Returns whether the words are for the command that compares, which takes options from a file.
+/// Returns whether the command in the command line `words` accepts `--config`. Only `dunkelva
+/// schema` does not.
 fn takes_file(words: &[String]) -> bool {
     match words.get(1) {
         Some(command) => command.as_str() != "schema",
@@ -352,8 +364,9 @@ fn takes_file(words: &[String]) -> bool {
     }
 }
 
-/// Returns the settings of the file that the command line names, without the options that it
-/// gives. There are none if it names no file. Fails where the command takes no such file.
+/// Reads the config file that the command line `words` names with `--config`. Options that the
+/// command line overrides are left out. Returns empty settings if no file is named. Fails if the
+/// command does not accept `--config`, or if the file can't be used.
 pub fn config_for(rt: &HostRuntime, words: &[String]) -> Result<Config> {
     let Some(path) = file_given(words) else {
         return Ok(Config {
@@ -371,7 +384,7 @@ pub fn config_for(rt: &HostRuntime, words: &[String]) -> Result<Config> {
     }
 }
 
-/// Returns whether a file sets an option that the beginning of an error names.
+/// Returns whether the beginning of an error's message names an option that the config file sets.
 fn is_of_file(error: &Error, config: &Config) -> bool {
     for word in error.claim().split(' ') {
         if let Some(option) = word.strip_prefix("--") {
@@ -383,8 +396,8 @@ fn is_of_file(error: &Error, config: &Config) -> bool {
     false
 }
 
-/// Returns an error, with the name of the file of options if it is about an option that this sets.
-/// `words` are those of the command line.
+/// Adds the name of the config file to an error if the error is about an option that the file sets.
+/// Returns other errors unchanged. `words` is the command line.
 pub fn with_file(error: Error, config: &Config, words: &[String]) -> Error {
     match file_given(words) {
         Some(path) if error.file().is_none() && is_of_file(&error, config) => error.context(path),
@@ -392,7 +405,8 @@ pub fn with_file(error: Error, config: &Config, words: &[String]) -> Error {
     }
 }
 
-/// Returns the words of a command line, with those that a file sets after the command.
+/// Returns the arguments of a command line, with the arguments `set` inserted after the command,
+/// the argument at index 1.
 pub fn joined<'a>(
     alloc: Global,
     words: &'a [String],
@@ -410,8 +424,10 @@ pub fn joined<'a>(
     Ok(all)
 }
 
-/// Returns the names of the two files: those of the command line, those that a file sets, or the
-/// one that it sets and one of the command line.
+/// Returns the names of the two input files. `first` and `second` are the names on the command
+/// line. If both are missing, the config file has to set both names. If only `first` is given, the
+/// config file may set the other name. Fails if there are not exactly two names, except that two
+/// names on the command line override those in the file.
 pub fn named_files<'a>(
     first: Option<&'a str>,
     second: Option<&'a str>,

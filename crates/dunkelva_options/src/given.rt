@@ -1,8 +1,8 @@
-//! The options that the words of a command line give.
+//! The options that are given on a command line.
 
 use crate::options::options;
 
-/// Returns the name of the option with a letter, if one has it.
+/// Returns the name of the option whose short form is `letter`, or `None` if there is none.
 fn named_by(letter: char) -> Option<&'static str> {
     for option in options() {
         if option.short == Some(letter) {
@@ -12,8 +12,10 @@ fn named_by(letter: char) -> Option<&'static str> {
     None
 }
 
-/// Returns the name of the option in a word, without its hyphens, and the value after an equals
-/// sign, if there is one. The value behind a letter is left out.
+/// Returns the name of the option in a command-line argument, without its hyphens, and the value
+/// after an equals sign, if there is one. A value written directly after a short option, as in
+/// `-kid`, is ignored. Returns `None` if the argument is not an option. The argument `--` gives an
+/// empty name.
 pub(crate) fn split_word(word: &str) -> Option<(&str, Option<&str>)> {
     let Some(option) = word.strip_prefix("--") else {
         let letter = word.strip_prefix('-')?.chars().next()?;
@@ -25,7 +27,8 @@ pub(crate) fn split_word(word: &str) -> Option<(&str, Option<&str>)> {
     }
 }
 
-/// Returns whether a word gives an option, or `None` if words behind it may.
+/// Returns `Some(true)` if the argument `word` gives the option `id`, and `Some(false)` if it is
+/// `--`, after which no option can follow. Otherwise returns `None`.
 fn told_by(word: &str, id: &str) -> Option<bool> {
     match split_word(word) {
         Some(("", None)) => Some(false),
@@ -34,7 +37,7 @@ fn told_by(word: &str, id: &str) -> Option<bool> {
     }
 }
 
-/// Returns whether words give an option.
+/// Returns whether the command line `words` gives the option `id`.
 pub(crate) fn is_given(words: &[String], id: &str) -> bool {
     for word in words {
         if let Some(is_given) = told_by(word, id) {
@@ -44,7 +47,7 @@ pub(crate) fn is_given(words: &[String], id: &str) -> bool {
     false
 }
 
-/// Returns whether words that are lent give an option.
+/// Returns whether the borrowed command line `words` gives the option `id`.
 pub(crate) fn is_among(words: &[&str], id: &str) -> bool {
     for word in words {
         if let Some(is_given) = told_by(word, id) {

@@ -1,4 +1,4 @@
-//! The options of the program `dunkelva`, on its command line and in a file.
+//! The options of the program `dunkelva`, on its command line and in its config file.
 #![tactic(auto)]
 
 pub mod command;

@@ -1,23 +1,23 @@
-//! Lists of paths as a user writes them, with commas between them.
+//! Lists of paths in an option, with commas between them.
 //!
-//! A comma within quotes is part of a name: in `."a,b",c` are the texts `."a,b"` and `c`.
+//! A comma within quotes is part of a path: the list `."a,b",c` has the paths `."a,b"` and `c`.
 
 ghost use Rattle.std.specs.Prelude.{◌≡◌, ◌++◌, map, IfOk};
 ghost use Rattle.dunkelva_options.specs.Lists.{after, all_parts, is_end, list_parts};
 
 use std::alloc::{AllocError, Global};
 
-/// The place of a byte: outside of quotes, within quotes, or escaped.
+/// The state of the scanner at a byte of a list: outside of quotes, within quotes, or escaped.
 #[derive(Clone, Copy, PartialEq, Eq)]
 enum Quoting {
     Outside,
     Inside,
-    /// Within quotes, after a backslash.
+    /// Within quotes, directly after a backslash.
     Escaped,
 }
 
 impl Quoting {
-    /// Returns the place of the byte after `byte`, which is at this place.
+    /// Returns the state after `byte`, which is read in this state.
     fn after(self, byte: u8) -> Quoting
         ensures { result ≡ after self byte }
     {
@@ -30,7 +30,7 @@ impl Quoting {
         }
     }
 
-    /// Returns whether a byte is a comma between two texts.
+    /// Returns whether `byte`, read in this state, is a comma that ends a path.
     fn is_end(self, byte: u8) -> bool
         ensures { result ≡ is_end self byte }
     {
@@ -38,7 +38,8 @@ impl Quoting {
     }
 }
 
-/// Appends the texts between the commas of a list.
+/// Appends the texts between the commas of a list to `parts`. Commas within quotes do not count. An
+/// empty list has one text, which is empty.
 fn push_parts<'a>(parts: &mut Vec<&'a str>, list: &'a str) -> Result<(), AllocError>
     ensures { IfOk result
         (λ _. map (λ text. text.now) parts.new.items ≡ map (λ text. text.now) parts.old.items
@@ -58,7 +59,7 @@ fn push_parts<'a>(parts: &mut Vec<&'a str>, list: &'a str) -> Result<(), AllocEr
     Ok(())
 }
 
-/// Returns the texts between the commas of each list.
+/// Splits each list at its commas, except at commas within quotes, and returns all texts in order.
 pub fn split_lists<'a>(alloc: Global, lists: &[&'a str]) -> Result<Vec<&'a str>, AllocError>
     ensures { IfOk result
         (λ parts. map (λ text. text.now) parts.items

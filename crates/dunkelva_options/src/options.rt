@@ -1,9 +1,9 @@
 //! The options of `dunkelva diff`, in the order of the help text.
 
-/// The kind of value that stands after an option.
+/// The kind of value that an option takes.
 #[derive(Clone, Copy)]
 pub enum Takes {
-    /// Nothing.
+    /// No value.
     Nothing,
     /// A text.
     Text,
@@ -11,49 +11,50 @@ pub enum Takes {
     Number,
     /// One of these words.
     Word(&'static [&'static str]),
-    /// A text, and the option may be given again.
+    /// A text. The option may be given several times.
     Texts,
-    /// A list of texts with commas between them, and the option may be given again.
+    /// A comma-separated list of texts. The option may be given several times.
     List,
 }
 
-/// The files that an option goes with.
+/// The kind of input files for which an option can be given.
 #[derive(Clone, Copy, PartialEq, Eq)]
 pub enum GoesWith {
-    /// Tables and documents.
+    /// Tables (CSV) and documents (JSON).
     Both,
-    /// Tables alone.
+    /// Only tables.
     Tables,
-    /// Documents alone.
+    /// Only documents.
     Documents,
 }
 
 /// An option of the command line.
 #[derive(Clone, Copy)]
 pub struct CliOption {
-    /// Its name, written after two hyphens.
+    /// The name, which is written after two hyphens.
     pub id: &'static str,
-    /// The letter that may be written after one hyphen in place of the name.
+    /// The letter of the short form, which is written after one hyphen.
     pub short: Option<char>,
-    /// The kind of value that follows it.
+    /// The kind of value that the option takes.
     pub takes: Takes,
-    /// The name of its value in the help text.
+    /// The name of the value in the help text.
     pub value: &'static str,
-    /// The value that it has where it is not given.
+    /// The value if the option is not given.
     pub default: Option<&'static str>,
-    /// The option that is given with it.
+    /// Another option, without which this one can't be given.
     pub needs: Option<&'static str>,
-    /// The options that may not be given with it.
+    /// The options that can't be given together with this one.
     pub excludes: &'static [&'static str],
-    /// The options that are refused beside it, and left out where a file sets them.
+    /// The options that can't be given together with this one, and are ignored if a config file
+    /// sets them.
     pub refuses: &'static [&'static str],
-    /// The files that it goes with.
+    /// The kind of input files for which the option can be given.
     pub goes_with: GoesWith,
-    /// Its line in the help text.
+    /// The description in the help text.
     pub help: &'static str,
 }
 
-/// An option that is given or not.
+/// A switch: an option without a value. Other options are written as changes of this one.
 const SWITCH: CliOption = CliOption {
     id: "",
     short: None,
@@ -67,7 +68,7 @@ const SWITCH: CliOption = CliOption {
     help: "",
 };
 
-/// The options that are of rows, and of their differences.
+/// The options for the comparison of rows. They can't be given with `--schema-only`.
 const OF_ROWS: [&str; 19] = [
     "key",
     "only",
@@ -90,7 +91,7 @@ const OF_ROWS: [&str; 19] = [
     "html",
 ];
 
-/// The options of the command.
+/// The options of `dunkelva diff`.
 static OPTIONS: [CliOption; 27] = [
     CliOption {
         id: "key",
@@ -284,12 +285,13 @@ static OPTIONS: [CliOption; 27] = [
     },
 ];
 
-/// Returns the options.
+/// Returns the options of `dunkelva diff`.
 pub fn options() -> &'static [CliOption] {
     &OPTIONS
 }
 
-/// Returns the options that are refused beside this one.
+/// Returns the names of the options that the option `id` refuses, or an empty slice if there is no
+/// such option.
 pub fn refused_by(id: &str) -> &'static [&'static str] {
     for option in options() {
         if option.id == id {

@@ -1,4 +1,4 @@
-//! Advice for words of a command line that are refused.
+//! Advice after errors of the command line.
 
 use crate::given::is_among;
 use crate::options::options;
@@ -6,7 +6,8 @@ use clap::error::ErrorKind;
 use std::alloc::{AllocError, Global};
 use std::fs;
 
-/// Returns which option gives the report a form that `--format` does not, if there is one.
+/// Returns advice for a report format that `--format` does not accept but that another option
+/// gives, or `None` if there is no such option.
 pub(crate) fn form_advice(form: &str) -> Option<&'static str> {
     match form {
         "markdown" | "md" => Some("for Markdown give --markdown"),
@@ -15,7 +16,7 @@ pub(crate) fn form_advice(form: &str) -> Option<&'static str> {
     }
 }
 
-/// Returns advice for the form that `--format` is given in these words.
+/// Returns advice for the value of `--format` in the arguments `words`, or `None` if there is none.
 fn format_advice(words: &[&str]) -> Option<&'static str> {
     let mut is_behind = false;
     for word in words {
@@ -32,14 +33,15 @@ fn format_advice(words: &[&str]) -> Option<&'static str> {
     None
 }
 
-/// Returns advice for the first word if it is a file, and not a command.
+/// Returns advice if the first argument is the name of a file instead of a command, and else
+/// `None`.
 fn command_advice(rt: &HostRuntime, words: &[&str]) -> Option<&'static str> {
     let first = words.get(1)?;
     fs::metadata(rt, *first).ok()?;
     Some("to compare two files: dunkelva diff LEFT RIGHT")
 }
 
-/// Options of other programs, each with what to give here.
+/// Options of other programs, each with advice on what to give instead.
 const OTHERS: [(&str, &str); 4] = [
     ("--json", "for JSON give --format json"),
     (
@@ -56,7 +58,8 @@ const OTHERS: [(&str, &str); 4] = [
     ),
 ];
 
-/// Returns advice for the first word that is an option of other programs.
+/// Returns advice for the first argument that is an option of other programs, or `None` if there is
+/// none.
 fn other_advice(words: &[&str]) -> Option<&'static str> {
     for word in words {
         for (option, advice) in OTHERS {
@@ -68,7 +71,8 @@ fn other_advice(words: &[&str]) -> Option<&'static str> {
     None
 }
 
-/// Returns which option these words lack that another one of them needs.
+/// Returns advice if the arguments give an option without another one that it needs: the text `--a
+/// needs --b`. Returns `None` if no option is missing, or if an allocation fails.
 fn needs_advice(alloc: Global, words: &[&str]) -> Option<String> {
     for option in options() {
         if let Some(other) = option.needs {
@@ -80,7 +84,8 @@ fn needs_advice(alloc: Global, words: &[&str]) -> Option<String> {
     None
 }
 
-/// Returns advice for words that are refused for a reason of this kind.
+/// Returns advice for arguments that the parser refused with an error of this kind, or `None` if
+/// there is none.
 pub fn advice_for(rt: &HostRuntime, words: &[&str], kind: ErrorKind) -> Option<String> {
     let advice = match kind {
         ErrorKind::InvalidSubcommand => command_advice(rt, words)?,
@@ -92,13 +97,14 @@ pub fn advice_for(rt: &HostRuntime, words: &[&str], kind: ErrorKind) -> Option<S
     String::from_str(rt.alloc(), advice).ok()
 }
 
-/// Returns whether a line of an error is a tip that misleads: to give an option as a value, or,
-/// where there is advice, an option that has a like name.
+/// Returns whether a line of an error is a misleading tip: the tip to pass an option as a value, or
+/// any tip if there is advice.
 fn misleads(line: &str, has_advice: bool) -> bool {
     line.starts_with("  tip: to pass '") || has_advice && line.starts_with("  tip: ")
 }
 
-/// Returns the text of an error for words that are refused, without tips that mislead.
+/// Returns the text of a parser's error without misleading tips. An empty line after an empty line
+/// is left out too.
 pub fn without_tips(alloc: Global, text: &str, has_advice: bool) -> Result<String, AllocError> {
     let mut kept = String::new(alloc);
     let mut is_behind_empty = false;

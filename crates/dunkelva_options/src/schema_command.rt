@@ -19,7 +19,7 @@ distinct, least and greatest are of the numbers. --null, --delimiter and
 
 The status is 0, or 2 where the file can't be read.";
 
-/// The options of `dunkelva diff` that the command has too.
+/// The options of `dunkelva diff` that `dunkelva schema` has too.
 const SHARED: [&str; 6] = [
     "null",
     "delimiter",
@@ -29,7 +29,7 @@ const SHARED: [&str; 6] = [
     "format",
 ];
 
-/// Returns the argument that names the file.
+/// Creates the positional argument that names the file.
 fn file_arg<'a>(alloc: Global) -> Arg<'a> {
     Arg::new(alloc, "file")
         .value_name("FILE")
@@ -37,7 +37,7 @@ fn file_arg<'a>(alloc: Global) -> Arg<'a> {
         .required(true)
 }
 
-/// Returns the command that prints the schema of a file.
+/// Creates the command `dunkelva schema`, which prints the schema of a file.
 pub(crate) fn schema_command<'a>(alloc: Global) -> Result<Command<'a>, AllocError> {
     let mut command = Command::new(alloc, "schema")
         .about("Says what is in a CSV or NDJSON file")
