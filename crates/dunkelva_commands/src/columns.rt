@@ -1,4 +1,4 @@
-//! The names of a file's columns, for messages.
+//! Hints about the names of a file's columns, for error messages.
 
 use diff_csv::options::CsvOptions;
 use diff_csv::source::Source;
@@ -9,10 +9,10 @@ use dunkelva_messages::near::{are_near, differ_by_case};
 use polars_arrays_flat::byte_rows::ByteRows;
 use std::alloc::Global;
 
-/// The bytes that may stand between fields.
+/// The bytes that commonly separate fields.
 const DELIMITERS: &[u8] = b",;\t|";
 
-/// Returns a list of the first names, and how many more there are.
+/// Returns a list of the first names, followed by the number of the remaining ones.
 fn list_of<N: ByteRows>(alloc: Global, names: &N) -> Result<String> {
     let count = names.count();
     let mut text = String::new(alloc);
@@ -25,8 +25,8 @@ fn list_of<N: ByteRows>(alloc: Global, names: &N) -> Result<String> {
     Ok(text)
 }
 
-/// Returns the place of the first name that differs from another one by case alone, or else that of
-/// the first one that is near to it.
+/// Returns the index of the first name that differs from `wanted` only by case. If there is none,
+/// returns the index of the first name that is similar to it, or `None`.
 fn nearest<N: ByteRows>(names: &N, wanted: &[u8]) -> Option<usize> {
     let mut near = None;
     for c in 0..names.count() {
@@ -41,7 +41,9 @@ fn nearest<N: ByteRows>(names: &N, wanted: &[u8]) -> Option<usize> {
     near
 }
 
-/// Returns the byte of the only name that may be the delimiter in place of this one, if it has one.
+/// Returns a byte that may be the real delimiter of a file with a single column: the first byte of
+/// the column's name that commonly separates fields and is not `delimiter`. Otherwise returns
+/// `None`.
 fn other_delimiter<N: ByteRows>(names: &N, delimiter: u8) -> Option<char> {
     if names.count() != 1 {
         return None;
@@ -54,7 +56,7 @@ fn other_delimiter<N: ByteRows>(names: &N, delimiter: u8) -> Option<char> {
     None
 }
 
-/// Returns a question about a byte that may stand between fields in place of the delimiter.
+/// Asks whether `other` is the delimiter, as the text of a hint.
 fn question_about_delimiter(alloc: Global, other: char, delimiter: u8) -> Option<String> {
     if delimiter == b',' {
         return format!(in alloc; "is {other:?} the --delimiter?").ok();
@@ -62,7 +64,8 @@ fn question_about_delimiter(alloc: Global, other: char, delimiter: u8) -> Option
     format!(in alloc; "is {other:?} its delimiter? Both files are read with one.").ok()
 }
 
-/// Returns a question about a name that is not among some.
+/// Returns a question about the column name `wanted`, which is not among `names`: whether another
+/// byte is the delimiter, or whether a similar name was meant. Returns `None` if neither is likely.
 fn question_about<N: ByteRows>(
     alloc: Global,
     names: &N,
@@ -80,8 +83,9 @@ fn question_about<N: ByteRows>(
     format!(in alloc; "did you mean {name}?").ok()
 }
 
-/// Returns what is known of a name that is not among some: a question, and a list of them, with the
-/// file that they are of, if that is given.
+/// Returns a hint about the column name `wanted`, which is not among `names`: a question, if there
+/// is one, and a list of the columns. If `file` is given, the hint says that the columns are those
+/// of `file`.
 fn hint_about<N: ByteRows>(
     alloc: Global,
     names: &N,
@@ -100,10 +104,10 @@ fn hint_about<N: ByteRows>(
     }
 }
 
-/// Returns a hint at a name that is not the name of a column of a file: a question, if another name
-/// is near or the delimiter may be another one, and a list of the columns. Returns `None` if it is
-/// not an ordinary file, which can be read a second time, or has no columns. `is_named` says that
-/// the hint names the file.
+/// Returns a hint about the name `wanted`, which is not the name of a column of a file: a question,
+/// if a name is similar or another byte may be the delimiter, and a list of the columns. If
+/// `is_named` is true, the hint names the file. Returns `None` if the file is not a regular file,
+/// since only these can be read again, if it can't be read, or if it has no columns.
 pub(crate) fn columns_hint(
     rt: &HostRuntime,
     file: &str,
@@ -120,7 +124,8 @@ pub(crate) fn columns_hint(
     hint_about(rt.alloc(), &names, csv.delimiter, wanted, file)
 }
 
-/// Returns the name of a column of an ordinary file, the first being 0.
+/// Reads the name of a column from a regular file. The first column is 0. Returns `None` if the
+/// file can't be read again, has no such column, or the name is not UTF-8.
 pub(crate) fn column_name(
     rt: &HostRuntime,
     file: &str,

@@ -1,4 +1,4 @@
-//! The key of a document in a file that is read once more, for messages.
+//! The key of a document, read from its file again for an error message.
 
 use dunkelva_messages::lines::line_bytes;
 use dunkelva_messages::names::push_name;
@@ -6,10 +6,11 @@ use json::{Scratch, Value};
 use json_paths::path::Path;
 use std::alloc::Global;
 
-/// The most bytes of a number in a message.
+/// The greatest length of a number in a message, in bytes.
 const MOST_BYTES: usize = 60;
 
-/// Appends a part of a key, unless it is a list, an object or a long number.
+/// Appends a part of a key to `text`, with a comma before it unless it is the first one. A missing
+/// part is written as null. Returns `None` if the part is a list, an object or a long number.
 fn push_part(
     text: &mut String,
     alloc: Global,
@@ -31,7 +32,8 @@ fn push_part(
     text.push_str(word).ok()
 }
 
-/// Returns a list of the parts of a document at the paths of its key.
+/// Returns a list of the parts of a document at the key's paths, as text. Returns `None` if a part
+/// is a list, an object or a long number.
 fn parts_of(alloc: Global, document: &Value<'_>, paths: &[Path]) -> Option<String> {
     let mut text = String::new(alloc);
     for (i, path) in paths.iter().enumerate() {
@@ -40,7 +42,8 @@ fn parts_of(alloc: Global, document: &Value<'_>, paths: &[Path]) -> Option<Strin
     Some(text)
 }
 
-/// Returns the key of the document in a line of an ordinary file.
+/// Reads the key of the document in a line of a regular file. The first line is 1. Returns `None`
+/// if the line can't be read again, is not a JSON document, or if `parts_of` returns `None`.
 pub(crate) fn document_key(
     rt: &HostRuntime,
     file: &str,

@@ -1,4 +1,5 @@
-//! The key columns of a file that is read once more, for messages.
+//! The key of a row, and the command that sorts a file by its key, for error messages. The file is
+//! read again.
 
 use csv::ByteRecord;
 use diff_csv::source::Source;
@@ -8,7 +9,7 @@ use dunkelva_messages::names::push_name;
 use polars_arrays_flat::byte_rows::ByteRows;
 use std::alloc::Global;
 
-/// Returns the place of a name among some, the first being 0.
+/// Returns the index of the column named `wanted`, or `None` if there is none.
 fn place_of<N: ByteRows>(names: &N, wanted: &[u8]) -> Option<usize> {
     for c in 0..names.count() {
         if names.bytes(c) == wanted {
@@ -18,7 +19,7 @@ fn place_of<N: ByteRows>(names: &N, wanted: &[u8]) -> Option<usize> {
     None
 }
 
-/// Returns the places of the key columns among all, if all are there.
+/// Returns the indices of the key columns, or `None` if one of them is missing.
 fn places_of<N: ByteRows>(alloc: Global, names: &N, keys: &[&[u8]]) -> Option<Vec<usize>> {
     let mut places = Vec::new(alloc);
     for key in keys {
@@ -27,7 +28,8 @@ fn places_of<N: ByteRows>(alloc: Global, names: &N, keys: &[&[u8]]) -> Option<Ve
     Some(places)
 }
 
-/// Returns a list of the cells of a row in these columns.
+/// Returns a list of the cells of a row in the given columns, as text, or `None` if a cell is
+/// missing.
 fn cells_of(alloc: Global, row: &ByteRecord, columns: &[usize]) -> Option<String> {
     let mut text = String::new(alloc);
     for (i, column) in columns.iter().enumerate() {
@@ -36,7 +38,8 @@ fn cells_of(alloc: Global, row: &ByteRecord, columns: &[usize]) -> Option<String
     Some(text)
 }
 
-/// Returns the key of the row that begins at a line of an ordinary file.
+/// Reads the key of the row that begins at a line of a regular file. The first line is 1. Returns
+/// `None` if the file can't be read again, or has no such row.
 pub(crate) fn row_key(
     rt: &HostRuntime,
     file: &str,
@@ -57,7 +60,7 @@ pub(crate) fn row_key(
     None
 }
 
-/// Returns a byte between fields as a shell takes it, if it can be printed.
+/// Returns the delimiter as an argument for a shell, in quotes, or `None` if it can't be printed.
 fn in_shell(alloc: Global, delimiter: u8) -> Option<String> {
     match delimiter {
         b'\t' => String::from_str(alloc, "$'\\t'").ok(),
@@ -70,7 +73,8 @@ fn in_shell(alloc: Global, delimiter: u8) -> Option<String> {
     }
 }
 
-/// Returns the command that sorts rows by these columns, the first being 0.
+/// Returns a shell command that sorts lines by the given columns, or `None` if the delimiter can't
+/// be printed. The first column is 0.
 fn sort_by(alloc: Global, columns: &[usize], delimiter: u8) -> Option<String> {
     let between = in_shell(alloc, delimiter)?;
     let mut command = format!(in alloc; "LC_ALL=C sort -t{between}").ok()?;
@@ -82,7 +86,9 @@ fn sort_by(alloc: Global, columns: &[usize], delimiter: u8) -> Option<String> {
     Some(command)
 }
 
-/// Returns the command that sorts an ordinary file by its key.
+/// Returns a shell command that sorts a regular file by its key columns, below the header if there
+/// is one. Returns `None` if the file can't be read again or lacks a key column, or if the
+/// delimiter can't be printed.
 pub(crate) fn sort_command(rt: &HostRuntime, file: &str, options: &Options<'_>) -> Option<String> {
     let alloc = rt.alloc();
     let source = Source::open(alloc, open_again(rt, file)?, options.csv).ok()?;

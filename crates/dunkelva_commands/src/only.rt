@@ -1,7 +1,8 @@
-//! Paths of `--only` at which no document has a part.
+//! Warnings about paths in `--only` at which no document has a part.
 //!
-//! With such a path alone no difference is found, whatever the documents are. So a misspelt one is
-//! reported, on standard error, once the comparison has ended.
+//! If all paths are of this sort, no difference is found, whatever the documents are. A misspelt
+//! path is therefore reported on standard error after the comparison. For this the files are read
+//! again.
 
 use clap::ArgMatches;
 use dunkelva_messages::files::open_again;
@@ -11,16 +12,18 @@ use json_paths::pattern::{Pattern, PatternStep};
 use std::alloc::{AllocError, Global};
 use std::io::{BufRead, BufReader};
 
-/// The patterns that are looked for, and whether each was found.
+/// A search for patterns in documents. `found[i]` says whether a document had a part that pattern
+/// `i` names.
 #[derive(Drop)]
 struct Search<'p> {
     patterns: &'p [Pattern],
     found: Vec<bool>,
-    /// `true` if there was a document.
+    /// `true` if a document was read.
     has_documents: bool,
 }
 
-/// Appends the parts of a value to which a step of a pattern leads.
+/// Appends the parts of a value to which one step of a pattern leads: at most one part, or all
+/// items of an array. Appends nothing if the step leads nowhere.
 fn push_inside<'v, 'a>(
     parts: &mut Vec<&'v Value<'a>>,
     step: &PatternStep,
@@ -57,7 +60,7 @@ fn has_part(alloc: Global, pattern: &Pattern, document: &Value<'_>) -> Result<bo
 }
 
 impl<'p> Search<'p> {
-    /// Begins a search in which nothing is found yet.
+    /// Creates a search that has found no pattern yet.
     fn new(alloc: Global, patterns: &'p [Pattern]) -> Result<Search<'p>, AllocError> {
         let mut found = Vec::new(alloc);
         for _ in patterns {
@@ -70,7 +73,7 @@ impl<'p> Search<'p> {
         })
     }
 
-    /// Looks for the patterns in the document of a line, if it is one.
+    /// Searches the document in a line for the patterns. Ignores a line that is not a JSON object.
     fn read_line(&mut self, alloc: Global, line: &str) -> Result<(), AllocError> {
         let mut scratch = Scratch::new(alloc);
         let Ok(document) = Value::parse(alloc, line, &mut scratch) else {
@@ -95,8 +98,9 @@ impl<'p> Search<'p> {
         !self.found.contains(&false)
     }
 
-    /// Looks for the patterns in an ordinary file until all are found. Returns `None` if it can't
-    /// be read once more.
+    /// Opens a regular file again, after the comparison has read it, and searches its lines for the
+    /// patterns. Stops once every pattern is found. Returns `None` if the file isn't a regular
+    /// file, can't be opened or read, or if memory runs out.
     fn read_file(&mut self, rt: &HostRuntime, file: &str) -> Option<()> {
         let source = open_again(rt, file)?;
         let reader = BufReader::new(rt.alloc(), source).ok()?;
@@ -111,8 +115,9 @@ impl<'p> Search<'p> {
     }
 }
 
-/// Searches two files for the parts that patterns name. Returns `None` if a file can't be read once
-/// more.
+/// Searches two regular files for parts that the patterns name. The second file is not read if all
+/// patterns are found in the first. Returns `None` if a file can't be read again, or if memory runs
+/// out.
 fn search_files<'p>(
     rt: &HostRuntime,
     patterns: &'p [Pattern],
@@ -127,8 +132,9 @@ fn search_files<'p>(
     Some(search)
 }
 
-/// Prints a warning for each path of `--only` at which no document of two ordinary files has a
-/// part. `patterns` are these paths.
+/// Prints a warning for each path of `--only` at which no document of the two files has a part.
+/// `patterns` are the patterns of these paths. Prints nothing if the files can't be read again, or
+/// have no documents.
 pub(crate) fn warn_of_unknown(
     rt: &HostRuntime,
     matches: &ArgMatches<'_>,

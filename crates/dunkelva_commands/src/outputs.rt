@@ -1,4 +1,4 @@
-//! Refusals of outputs that are inputs too, since a report would be written over them.
+//! Checks that a report does not overwrite an input.
 
 use dunkelva_messages::error::Result;
 use dunkelva_messages::trouble;
@@ -6,14 +6,16 @@ use dunkelva_settings::words::Target;
 use std::fs;
 use std::os::unix::fs::MetadataExt;
 
-/// Returns the numbers of the device and of the file that a path leads to, through links too.
-/// Returns `None` if there is nothing at the path, or a terminal, a pipe or the like.
+/// Returns the device number and the inode number of the regular file at a path. Links are
+/// followed. Returns `None` if nothing is at the path, or no regular file, such as a terminal or a
+/// pipe.
 fn stored_at(rt: &HostRuntime, path: &str) -> Option<(u64, u64)> {
     let data = fs::metadata(rt, path).ok()?;
     data.is_file().then_some((data.dev(), data.ino()))
 }
 
-/// Returns the first input that is the file at a path.
+/// Returns the first input that is the same file as the file at `path`, or `None` if there is none.
+/// The input `-` is standard input.
 fn input_at<'a>(rt: &HostRuntime, path: &str, inputs: &[&'a str]) -> Option<&'a str> {
     let (device, number) = stored_at(rt, path)?;
     for input in inputs {
@@ -26,7 +28,7 @@ fn input_at<'a>(rt: &HostRuntime, path: &str, inputs: &[&'a str]) -> Option<&'a 
     None
 }
 
-/// Refuses to write to standard output where that is one of the inputs.
+/// Fails if standard output is one of the inputs.
 pub(crate) fn refuse_own_output(rt: &HostRuntime, inputs: &[&str]) -> Result<()> {
     match input_at(rt, "/dev/stdout", inputs) {
         Some(input) => Err(trouble!("standard output is the input {input:?}")),
@@ -34,7 +36,7 @@ pub(crate) fn refuse_own_output(rt: &HostRuntime, inputs: &[&str]) -> Result<()>
     }
 }
 
-/// Refuses to write a report to one of the inputs.
+/// Fails if the report would be written to one of the inputs.
 pub(crate) fn refuse_own_target(
     rt: &HostRuntime,
     inputs: &[&str],

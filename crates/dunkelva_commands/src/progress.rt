@@ -1,4 +1,4 @@
-//! The progress of a long comparison, on standard error.
+//! A progress line for long comparisons, on standard error.
 
 ghost use Rattle.std.specs.Prelude.{ℕ, List, Option};
 
@@ -8,37 +8,38 @@ use std::io;
 use std::io::{IsTerminal, Read, Write};
 use std::time::Instant;
 
-/// The time before the first line, in milliseconds.
+/// The time before the line is first shown, in milliseconds.
 const SILENCE: u128 = 1000;
 
-/// The least time between two lines, in milliseconds.
+/// The least time between two updates of the line, in milliseconds.
 const PAUSE: u128 = 100;
 
-/// The bytes that are read so far, and the state of the line that reports them.
+/// The number of bytes read so far, and the state of the progress line.
 #[derive(Clone, Copy)]
 struct Reading {
-    /// The number of bytes that are read.
+    /// The number of bytes read so far.
     bytes: u64,
-    /// The time of the next line, in milliseconds from the start.
+    /// The time of the next update, in milliseconds since the start.
     next: u128,
-    /// `true` if a line stands on the terminal.
+    /// `true` if the line is visible on the terminal.
     is_shown: bool,
 }
 
-/// A line on standard error that says how many bytes are read. It is shown only on a terminal, and
-/// if the run takes more than a second.
+/// A progress line on standard error that says how many bytes were read. It is shown only on a
+/// terminal, and only if the run takes more than a second.
 #[derive(Drop)]
 pub(crate) struct Progress<'a> {
     rt: &'a HostRuntime,
-    // `None` if no line is to be shown.
+    // The start of the run, or `None` if the line is never shown.
     start: Option<Instant>,
-    // The number of bytes of all inputs, if it is known.
+    // The number of bytes of both inputs, or `None` if it is unknown.
     total: Option<u64>,
     reading: Cell<Reading>,
 }
 
 impl<'a> Progress<'a> {
-    /// Begins to count. `total` is the number of bytes of all inputs, if it is known.
+    /// Starts to measure the time. `total` is the number of bytes of both inputs, or `None` if it
+    /// is unknown.
     pub(crate) fn new(rt: &'a HostRuntime, total: Option<u64>) -> Progress<'a> {
         let start = if rt.stderr().is_terminal() {
             Instant::now(rt).ok()
@@ -58,7 +59,7 @@ impl<'a> Progress<'a> {
         }
     }
 
-    /// Counts bytes that were read, and shows the line again when it is time.
+    /// Adds a number of bytes that were read, and updates the line if enough time has passed.
     fn add(&self, bytes: usize) {
         let Some(start) = self.start else {
             return;
@@ -77,7 +78,7 @@ impl<'a> Progress<'a> {
         self.reading.set(reading);
     }
 
-    /// Shows how many bytes are read, in place of the line before.
+    /// Prints the number of bytes read so far over the previous line.
     fn say(&self, bytes: u64) {
         let _ = match self.total {
             Some(total) => eprint!(self.rt; "\r{bytes} of {total} bytes read"),
@@ -85,7 +86,7 @@ impl<'a> Progress<'a> {
         };
     }
 
-    /// Erases the line.
+    /// Erases the line, if it is visible.
     pub(crate) fn erase(&self) {
         let mut reading = self.reading.get();
         if reading.is_shown {
@@ -96,7 +97,7 @@ impl<'a> Progress<'a> {
     }
 }
 
-/// A source whose bytes are counted.
+/// A source that reports the bytes read from it to a `Progress`.
 #[derive(Drop)]
 pub(crate) struct Counted<'a> {
     pub(crate) source: Source,
@@ -111,7 +112,7 @@ impl Read for Counted<'_> {
     }
 }
 
-/// A writer that erases the line before it writes.
+/// A writer that erases the progress line before it writes.
 #[derive(Drop)]
 pub(crate) struct Cleared<'a, W> {
     pub(crate) writer: W,

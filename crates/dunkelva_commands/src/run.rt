@@ -1,4 +1,4 @@
-//! The command that the words of the program name, and its exit status.
+//! The commands of the program, and its exit status.
 
 use crate::only::warn_of_unknown;
 use crate::outputs::refuse_own_target;
@@ -33,8 +33,8 @@ use std::env;
 /// The exit status if the files can't be compared.
 const TROUBLE: u8 = 2;
 
-/// Compares two CSV files by these columns and tolerances, writes the report to the target, and
-/// returns the exit status.
+/// Compares two CSV files with the given column names and tolerances. Writes the report to the
+/// target, and returns the exit status.
 fn diff_by_names(
     rt: &HostRuntime,
     matches: &ArgMatches<'_>,
@@ -70,7 +70,8 @@ fn diff_by_names(
     compare_named(rt, left, right, Task::Tables(&options), target)
 }
 
-/// Compares two CSV files, writes the report to the target, and returns the exit status.
+/// Compares two CSV files with the options in `matches`. Writes the report to the target, and
+/// returns the exit status. Fails if an option is only for documents.
 fn diff_tables(
     rt: &HostRuntime,
     matches: &ArgMatches<'_>,
@@ -83,8 +84,8 @@ fn diff_tables(
     diff_by_names(rt, matches, files, &names, &tolerances, target)
 }
 
-/// Compares two files of documents by these keys and rules, writes the report to the target, and
-/// returns the exit status.
+/// Compares two files of documents with the given keys and rules. Writes the report to the target,
+/// warns about paths of `--only` that were not found, and returns the exit status.
 fn diff_by_paths(
     rt: &HostRuntime,
     matches: &ArgMatches<'_>,
@@ -112,7 +113,8 @@ fn diff_by_paths(
     Ok(status)
 }
 
-/// Compares two files of documents, writes the report to the target, and returns the exit status.
+/// Compares two files of documents with the options in `matches`. Writes the report to the target,
+/// and returns the exit status. Fails if an option is only for tables.
 fn diff_documents(
     rt: &HostRuntime,
     matches: &ArgMatches<'_>,
@@ -125,7 +127,8 @@ fn diff_documents(
     diff_by_paths(rt, matches, files, &keys, &rules, target)
 }
 
-/// Compares the two files that the words name.
+/// Runs `dunkelva diff`: compares the two files that the command line or the config file names, and
+/// returns the exit status.
 fn diff(rt: &HostRuntime, matches: &ArgMatches<'_>, config: &Config) -> Result<u8> {
     let (first, second) = (matches.get_str("left"), matches.get_str("right"));
     let (left, right) = named_files(first, second, config)?;
@@ -143,14 +146,15 @@ fn diff(rt: &HostRuntime, matches: &ArgMatches<'_>, config: &Config) -> Result<u
     diff_tables(rt, matches, (left, right), target)
 }
 
-/// Prints the schema of the file that the words name.
+/// Runs `dunkelva schema`: prints the schema of the file given as argument, or of standard input,
+/// and returns the exit status.
 fn print_schema(rt: &HostRuntime, matches: &ArgMatches<'_>) -> Result<u8> {
     let file = matches.get_str("file").unwrap_or("-");
     refuse_packed(rt, file)?;
     show_schema(rt, matches).map_err(|error| explained(rt, error, &[file]))
 }
 
-/// Runs the command that parsed words name, and returns the status.
+/// Runs the command in the parsed arguments `matches`, and returns the exit status.
 fn run_matches(rt: &HostRuntime, matches: &ArgMatches<'_>, config: &Config) -> Result<u8> {
     match matches.subcommand() {
         Some(("diff", matches)) => diff(rt, matches, config),
@@ -159,7 +163,7 @@ fn run_matches(rt: &HostRuntime, matches: &ArgMatches<'_>, config: &Config) -> R
     }
 }
 
-/// Prints why words are refused: the text of an error, and advice.
+/// Prints an error of the command line on standard error, followed by advice if there is some.
 fn print_reason(rt: &HostRuntime, words: &[&str], error: &clap::Error) -> Result<()> {
     let advice = advice_for(rt, words, error.kind());
     let text = format!(in rt.alloc(); "{error}")?;
@@ -171,7 +175,8 @@ fn print_reason(rt: &HostRuntime, words: &[&str], error: &clap::Error) -> Result
     Ok(())
 }
 
-/// Prints the error for words that are refused, or the help, and returns the status.
+/// Prints an error of the command line, or the help or version that was asked for. Returns the exit
+/// status.
 fn print_refusal(rt: &HostRuntime, words: &[&str], error: &clap::Error) -> Result<u8> {
     if error.use_stderr() {
         print_reason(rt, words, error)?;
@@ -181,7 +186,7 @@ fn print_refusal(rt: &HostRuntime, words: &[&str], error: &clap::Error) -> Resul
     Ok(error.exit_code() as u8)
 }
 
-/// Runs the command that these words of a command line name, and returns the status.
+/// Parses the arguments `words`, runs their command, and returns the exit status.
 fn run_command(rt: &HostRuntime, words: &[&str], config: &Config) -> Result<u8> {
     let command = command(rt.alloc())?;
     match command.try_get_matches_from(words) {
@@ -190,7 +195,8 @@ fn run_command(rt: &HostRuntime, words: &[&str], config: &Config) -> Result<u8> 
     }
 }
 
-/// Runs the command that the words of the command line name, with the settings of a file.
+/// Runs the command line `words` together with the options of the config file, and returns the exit
+/// status. An error about an option of the file names the file.
 fn run_set(rt: &HostRuntime, words: &[String], config: &Config) -> Result<u8> {
     let all = joined(rt.alloc(), words, &config.words)?;
     match run_command(rt, &all, config) {
@@ -199,20 +205,21 @@ fn run_set(rt: &HostRuntime, words: &[String], config: &Config) -> Result<u8> {
     }
 }
 
-/// Runs the command that the words of the command line name, and returns the status.
+/// Reads the config file that the command line names, if there is one. Runs the command, and
+/// returns the exit status.
 fn run_given(rt: &HostRuntime, words: &[String]) -> Result<u8> {
     let config = config_for(rt, words)?;
     run_set(rt, words, &config)
 }
 
-/// Runs the command that the program's command line names, and returns the status.
+/// Runs the program with its command-line arguments, and returns the exit status.
 fn run_words(rt: &HostRuntime) -> Result<u8> {
     let words: Vec<String> = env::args(rt)?.collect(rt.alloc())?;
     run_given(rt, &words)
 }
 
-/// Runs the command that the program's command line names, prints the error if there is one, and
-/// returns the exit status.
+/// Runs the program, and returns its exit status. If there is an error, prints it on standard
+/// error. The exit status is then 2.
 pub fn run(rt: &HostRuntime) -> u8 {
     match run_words(rt) {
         Ok(status) => status,

@@ -1,4 +1,4 @@
-//! The schema of a file: `dunkelva schema FILE`.
+//! The command `dunkelva schema FILE`, which prints the schema of a file.
 
 use crate::outputs::refuse_own_output;
 use crate::trouble::{csv_trouble, schema_trouble};
@@ -15,10 +15,10 @@ use schema_run::said::{Form, push_schema_of};
 use std::io;
 use std::io::{ErrorKind, Write};
 
-/// The status if nobody reads the output.
+/// The exit status if standard output is a closed pipe.
 const TROUBLE: u8 = 2;
 
-/// Returns the form of the output.
+/// Returns the format of the output: JSON with `--format json`, and else text.
 pub(crate) fn form_in(matches: &ArgMatches<'_>) -> Form {
     if matches.get_str("format") == Some("json") {
         Form::Json
@@ -27,8 +27,8 @@ pub(crate) fn form_in(matches: &ArgMatches<'_>) -> Form {
     }
 }
 
-/// Prints a text, and returns the status. If nobody reads the output, no error is printed, as with
-/// other programs.
+/// Prints a text on standard output, and returns `status`. If standard output is a closed pipe, no
+/// error is printed, and the status is 2.
 pub(crate) fn print_text(rt: &HostRuntime, text: &[u8], status: u8) -> Result<u8> {
     let mut out = io::writer(rt);
     match out.write_all(text) {
@@ -38,7 +38,7 @@ pub(crate) fn print_text(rt: &HostRuntime, text: &[u8], status: u8) -> Result<u8
     }
 }
 
-/// Returns the text of the schemas of the paths of a file's documents.
+/// Reads a file of JSON documents, and returns the schemas of their paths as text.
 fn documents_text(rt: &HostRuntime, matches: &ArgMatches<'_>, file: &str) -> Result<Vec<u8>> {
     refuse_of_tables(matches)?;
     let reader = open(rt, file, false)?;
@@ -51,7 +51,7 @@ fn documents_text(rt: &HostRuntime, matches: &ArgMatches<'_>, file: &str) -> Res
     }
 }
 
-/// Returns the text of the schemas of the columns of a file.
+/// Reads a CSV file, and returns the schemas of its columns as text.
 fn schema_text(
     rt: &HostRuntime,
     matches: &ArgMatches<'_>,
@@ -67,7 +67,8 @@ fn schema_text(
     }
 }
 
-/// Prints the schema of the file that the words name, and returns the status.
+/// Prints the schema of the file given as argument, or of standard input, and returns the exit
+/// status.
 pub(crate) fn show_schema(rt: &HostRuntime, matches: &ArgMatches<'_>) -> Result<u8> {
     let file = matches.get_str("file").unwrap_or("-");
     refuse_own_output(rt, &[file])?;

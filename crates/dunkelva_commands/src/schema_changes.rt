@@ -1,4 +1,4 @@
-//! The schemas of two files, compared: `dunkelva diff --schema-only LEFT RIGHT`.
+//! The command `dunkelva diff --schema-only LEFT RIGHT`, which compares the schemas of two files.
 
 use crate::outputs::refuse_own_output;
 use crate::schema::{form_in, print_text};
@@ -21,7 +21,8 @@ use schema_report::files::Files;
 use schema_run::read::{TableSchema, read_schema};
 use schema_run::said::Form;
 
-/// Reads the schemas of a file's columns. `is_beside` says that an input is standard input.
+/// Reads a CSV file, and returns the schemas of its columns. `is_beside` is true if one of the two
+/// inputs is standard input.
 fn columns_in(
     rt: &HostRuntime,
     matches: &ArgMatches<'_>,
@@ -36,8 +37,8 @@ fn columns_in(
     }
 }
 
-/// Reads the schemas of the paths of a file's documents. `is_beside` says that an input is standard
-/// input.
+/// Reads a file of JSON documents, and returns the schemas of their paths. `is_beside` is true if
+/// one of the two inputs is standard input.
 fn paths_in(
     rt: &HostRuntime,
     matches: &ArgMatches<'_>,
@@ -59,7 +60,7 @@ fn names_of<'a>(left: &'a str, right: &'a str) -> Files<'a> {
     }
 }
 
-/// Returns the status for these counts.
+/// Returns the exit status: 0 if the counts have no difference, and else 1.
 fn status_of(counts: SchemaCounts) -> u8 {
     if counts.changed == 0 && counts.removed == 0 && counts.added == 0 {
         0
@@ -68,7 +69,7 @@ fn status_of(counts: SchemaCounts) -> u8 {
     }
 }
 
-/// Prints the differences between the schemas of two tables, and returns the status.
+/// Prints the differences between the schemas of two tables, and returns the exit status.
 fn print_columns(
     rt: &HostRuntime,
     form: Form,
@@ -85,7 +86,8 @@ fn print_columns(
     print_text(rt, &text, status_of(counts_of(before, after)))
 }
 
-/// Compares the columns of two files, and returns the status.
+/// Compares the column schemas of two CSV files, prints the differences, and returns the exit
+/// status. `is_beside` is true if one of them is standard input.
 fn compare_columns(
     rt: &HostRuntime,
     matches: &ArgMatches<'_>,
@@ -101,7 +103,8 @@ fn compare_columns(
     print_columns(rt, form_in(matches), files, &before, &after)
 }
 
-/// Prints the differences between the schemas of two files of documents, and returns the status.
+/// Prints the differences between the schemas of two files of documents, and returns the exit
+/// status.
 fn print_paths(
     rt: &HostRuntime,
     form: Form,
@@ -117,7 +120,8 @@ fn print_paths(
     print_text(rt, &text, status_of(counts_of(&before.paths, &after.paths)))
 }
 
-/// Compares the paths of two files of documents, and returns the status.
+/// Compares the path schemas of two files of documents, prints the differences, and returns the
+/// exit status. `is_beside` is true if one of them is standard input.
 fn compare_paths(
     rt: &HostRuntime,
     matches: &ArgMatches<'_>,
@@ -132,7 +136,9 @@ fn compare_paths(
     print_paths(rt, form_in(matches), files, &before, &after)
 }
 
-/// Prints the differences between the schemas of two files, and returns the status.
+/// Compares the schemas of two files, prints the differences, and returns the exit status. Fails if
+/// an option does not go with `--schema-only`, if both files are standard input, or if standard
+/// output is one of the files.
 pub(crate) fn compare_schemas(
     rt: &HostRuntime,
     matches: &ArgMatches<'_>,
