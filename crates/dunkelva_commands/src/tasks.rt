@@ -1,4 +1,4 @@
-//! Comparisons of two inputs, and the forms of their reports.
+//! Comparisons of two inputs, and the output of their reports.
 
 use crate::progress::{Cleared, Counted, Progress};
 use crate::trouble::{document_trouble, sorted_trouble, table_trouble};
@@ -23,17 +23,17 @@ use std::alloc::Global;
 use std::io::{ErrorKind, Write};
 use std::{fs, io};
 
-/// The end of a comparison.
+/// The result of a comparison that ended without an error.
 #[derive(Clone, Copy)]
 enum Ending {
     Same,
     Different,
-    /// Nobody reads standard output any more.
+    /// Standard output is a pipe that nobody reads any more.
     Unread,
 }
 
 impl Ending {
-    /// Returns the status of the program.
+    /// Returns the exit status of the program.
     fn status(self) -> u8 {
         match self {
             Ending::Same => 0,
@@ -52,18 +52,18 @@ impl From<Outcome> for Ending {
     }
 }
 
-/// The kind of the files, and the options of their comparison.
+/// A comparison to run: the kind of the input files, and the options.
 #[derive(Clone, Copy)]
 pub(crate) enum Task<'a> {
-    /// Tables, as CSV.
+    /// CSV files.
     Tables(&'a Options<'a>),
-    /// Tables that are sorted by key.
+    /// CSV files that are sorted by key.
     Sorted(&'a Options<'a>),
-    /// Documents of JSON, one a line.
+    /// Files of JSON documents, one document in each line.
     Documents(&'a DocumentOptions<'a>),
 }
 
-/// Returns the input of this name and source, whose bytes are counted.
+/// Creates an input with a name. The bytes read from it are reported to `progress`.
 fn counted<'a>(
     name: &'a str,
     source: Source,
@@ -75,8 +75,8 @@ fn counted<'a>(
     }
 }
 
-/// Returns the end of a comparison whose report could not be written. If nobody reads the output,
-/// that is not an error, as with other programs.
+/// Returns the result of a comparison whose report could not be written. A closed pipe is not an
+/// error, and gives `Unread`.
 fn unwritten(cause: io::Error) -> Result<Ending> {
     if cause.kind() == ErrorKind::BrokenPipe {
         return Ok(Ending::Unread);
@@ -84,7 +84,7 @@ fn unwritten(cause: io::Error) -> Result<Ending> {
     Err(trouble!("{cause}").context("standard output"))
 }
 
-/// Returns the end of a comparison of tables with this result.
+/// Converts the result of a comparison of tables. An error becomes the error to print.
 fn tables_ending(
     rt: &HostRuntime,
     came_to: Result<Outcome, RunError>,
@@ -98,7 +98,7 @@ fn tables_ending(
     }
 }
 
-/// Returns the end of a comparison of sorted tables with this result.
+/// Converts the result of a comparison of sorted tables. An error becomes the error to print.
 fn sorted_ending(
     rt: &HostRuntime,
     came_to: Result<Outcome, SortedError>,
@@ -112,7 +112,7 @@ fn sorted_ending(
     }
 }
 
-/// Returns the end of a comparison of documents with this result.
+/// Converts the result of a comparison of documents. An error becomes the error to print.
 fn documents_ending(
     rt: &HostRuntime,
     came_to: Result<Outcome, DocumentError>,
@@ -126,7 +126,7 @@ fn documents_ending(
     }
 }
 
-/// Compares two inputs of these names, and writes the report to `out`.
+/// Compares two inputs, and writes the report to `out`. `names` are the names of the inputs.
 fn report_to<W: Write>(
     rt: &HostRuntime,
     left: Source,
@@ -154,14 +154,14 @@ fn report_to<W: Write>(
     }
 }
 
-/// A report, and the end of its comparison.
+/// A report, and the result of the comparison.
 #[derive(Drop)]
 struct Made {
     report: Vec<u8>,
     ending: Ending,
 }
 
-/// Compares two inputs of these names, and returns the report.
+/// Compares two inputs, and returns the report.
 fn report_of(
     rt: &HostRuntime,
     left: Source,
@@ -175,7 +175,7 @@ fn report_of(
     Ok(Made { report, ending })
 }
 
-/// Compares two inputs of these names, and prints the report.
+/// Compares two inputs, and prints the report on standard output.
 fn print_report(
     rt: &HostRuntime,
     left: Source,
@@ -191,7 +191,8 @@ fn print_report(
     report_to(rt, left, right, names, progress, task, &mut out)
 }
 
-/// Prints a text that is made of a report.
+/// Prints a text on standard output. Returns `ending`, or `Unread` if standard output is a closed
+/// pipe.
 fn print_text(
     rt: &HostRuntime,
     text: &[u8],
@@ -208,7 +209,7 @@ fn print_text(
     }
 }
 
-/// Writes a page to a file.
+/// Writes an HTML page to the file at `path`, and returns `ending`.
 fn write_page(rt: &HostRuntime, page: &[u8], path: &str, ending: Ending) -> Result<Ending> {
     match fs::write(rt, path, page) {
         Ok(()) => Ok(ending),
@@ -216,7 +217,8 @@ fn write_page(rt: &HostRuntime, page: &[u8], path: &str, ending: Ending) -> Resu
     }
 }
 
-/// Appends a report of two files of these names in the form that the target takes.
+/// Converts a report to the form that the target needs, and appends it to `text`. Markdown, aligned
+/// columns and pages are made of a report of JSON lines.
 fn push_form(
     alloc: Global,
     text: &mut Vec<u8>,
@@ -241,7 +243,7 @@ fn push_form(
     Ok(())
 }
 
-/// Shows a report of two files of these names in the form that the target takes.
+/// Converts a report to the form that the target needs, and writes it to the target.
 fn show(
     rt: &HostRuntime,
     made: &Made,
@@ -257,7 +259,8 @@ fn show(
     }
 }
 
-/// Compares two inputs of these names, and shows the report.
+/// Compares two inputs, and writes the report to the target. A report for standard output is
+/// written while it is made.
 fn compared(
     rt: &HostRuntime,
     left: Source,
@@ -274,7 +277,8 @@ fn compared(
     show(rt, &made, names, progress, target)
 }
 
-/// Compares two inputs of these names, and returns the status.
+/// Compares two inputs, writes the report to the target, and returns the exit status. Shows the
+/// progress meanwhile.
 fn compare(
     rt: &HostRuntime,
     left: Source,
@@ -292,7 +296,8 @@ fn compare(
     }
 }
 
-/// Compares the two inputs that are named. One of them may be standard input.
+/// Opens the two named inputs, compares them, writes the report to the target, and returns the exit
+/// status. The name `-` is standard input. Fails if both inputs are standard input.
 pub(crate) fn compare_named(
     rt: &HostRuntime,
     left: &str,

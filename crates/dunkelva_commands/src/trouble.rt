@@ -1,4 +1,4 @@
-//! Errors for files that can't be compared.
+//! The errors to print if files can't be compared.
 
 use crate::columns::{column_name, columns_hint};
 use crate::document_key::document_key;
@@ -23,7 +23,7 @@ use dunkelva_settings::rules::{ABSOLUTE, RELATIVE};
 use json_tolerances::closeness::Margin;
 use schema_paths::error::SchemaError;
 
-/// Returns the name of a side's file.
+/// Returns the name of the input on a side.
 fn file_of<'a>(names: (&'a str, &'a str), side: Side) -> &'a str {
     match side {
         Side::Left => names.0,
@@ -31,7 +31,7 @@ fn file_of<'a>(names: (&'a str, &'a str), side: Side) -> &'a str {
     }
 }
 
-/// Returns the error for a record that has another number of fields than the first one.
+/// Returns the error for a record whose number of fields differs from that of the first record.
 fn other_length(line: u64, found: u64, expected: u64, csv: CsvOptions) -> Error {
     let first = if csv.has_header {
         "header"
@@ -42,7 +42,8 @@ fn other_length(line: u64, found: u64, expected: u64, csv: CsvOptions) -> Error 
     trouble!("line {line} has {found} {fields}, the {first} has {expected}")
 }
 
-/// Returns the error for a CSV file that can't be read.
+/// Returns the error for a CSV file that can't be read. Records of different lengths and open
+/// quotes are marked as the cause, so that a hint can be added.
 pub(crate) fn csv_trouble(cause: &CsvError, csv: CsvOptions) -> Error {
     match cause {
         CsvError::Length {
@@ -59,17 +60,18 @@ pub(crate) fn csv_trouble(cause: &CsvError, csv: CsvOptions) -> Error {
     }
 }
 
-/// Returns a name as a text.
+/// Returns a name as text, or `-` if it is not UTF-8.
 fn text_of(name: &[u8]) -> &str {
     str::from_utf8(name).unwrap_or("-")
 }
 
-/// Returns whether a file is an ordinary one without any byte.
+/// Returns whether a file is a regular file of 0 bytes.
 fn is_empty(rt: &HostRuntime, file: &str) -> bool {
     open_again(rt, file).is_some_and(|source| source.size() == Some(0))
 }
 
-/// Returns the error for a key that is not the name of a column of this file.
+/// Returns the error for a file that has no column of the name of a key. `key` is the index of the
+/// key. A hint says what is wrong with the file, or lists its columns.
 fn no_key(rt: &HostRuntime, file: &str, key: usize, options: &Options<'_>) -> Error {
     let Some(name) = options.choice.keys.get(key) else {
         return trouble!("a key column is missing");
@@ -94,7 +96,7 @@ fn no_key(rt: &HostRuntime, file: &str, key: usize, options: &Options<'_>) -> Er
     }
 }
 
-/// Returns the option that gives a tolerance.
+/// Returns the name of the option that gives a tolerance.
 fn option_of(tolerance: &Tolerance<'_>) -> &'static str {
     match tolerance.margin {
         Margin::Absolute(_) => ABSOLUTE,
@@ -102,7 +104,8 @@ fn option_of(tolerance: &Tolerance<'_>) -> &'static str {
     }
 }
 
-/// Returns the option that gives a list of names, and the names in the list.
+/// Returns the name of the option that gives a list of names, and the names. For tolerances the
+/// names are empty.
 fn names_in<'a>(list: NameList, options: &Options<'a>) -> (&'static str, &'a [&'a [u8]]) {
     match list {
         NameList::Only => ("only", options.choice.only.unwrap_or(&[])),
@@ -112,8 +115,8 @@ fn names_in<'a>(list: NameList, options: &Options<'a>) -> (&'static str, &'a [&'
     }
 }
 
-/// Returns the error for a name that is not the name of a column of either file. The columns of
-/// `file` are listed, if it can be read once more.
+/// Returns the error for a name that is not the name of a column of either file. A hint lists the
+/// columns of `file`, if it can be read again.
 fn unknown_column(
     rt: &HostRuntime,
     file: &str,
@@ -131,7 +134,8 @@ fn unknown_column(
     }
 }
 
-/// Returns the error for a tolerance for a column that neither file has.
+/// Returns the error for a tolerance whose column neither file has. `place` is the index of the
+/// tolerance.
 fn no_tolerance_column(rt: &HostRuntime, file: &str, place: usize, options: &Options<'_>) -> Error {
     let tolerances = options.tolerances.unwrap_or(&[]);
     match tolerances.get(place) {
@@ -143,7 +147,8 @@ fn no_tolerance_column(rt: &HostRuntime, file: &str, place: usize, options: &Opt
     }
 }
 
-/// Returns the error for a name in a list that is not the name of a column of either file.
+/// Returns the error for a name in a list that is not the name of a column of either file. `place`
+/// is the index of the name in the list.
 fn no_column(
     rt: &HostRuntime,
     file: &str,
@@ -161,7 +166,7 @@ fn no_column(
     }
 }
 
-/// Returns an error, with a hint after it if there is one.
+/// Adds a hint to an error, if there is one.
 fn with_hint(error: Error, hint: Option<String>) -> Error {
     match hint {
         Some(hint) => error.hint(hint),
@@ -169,12 +174,14 @@ fn with_hint(error: Error, hint: Option<String>) -> Error {
     }
 }
 
-/// Returns the error for two rows or documents that have the same key, and the key if it is known.
+/// Returns the error for two rows or documents with the same key. `first` and `again` are the
+/// numbers of their lines. The key becomes the hint, if it is given.
 fn one_key(first: u64, again: u64, key: Option<String>) -> Error {
     with_hint(trouble!("lines {first} and {again} have the same key"), key)
 }
 
-/// Returns the error for two rows of a file that have the same key.
+/// Returns the error for two rows of a file that have the same key. `first` and `again` are the
+/// numbers of their lines.
 fn rows_of_one_key(
     rt: &HostRuntime,
     file: &str,
@@ -185,7 +192,8 @@ fn rows_of_one_key(
     one_key(first, again, row_key(rt, file, first, options)).context(file)
 }
 
-/// Returns the error for a number in the column of this name, whose exponent is too wide.
+/// Returns the error for a number with an exponent of more than 30 digits. `name` is the name of
+/// its column.
 fn wide_exponent(line: u64, name: &[u8]) -> Error {
     trouble!(
         "line {line}: a number in column {:?} has an exponent of more than 30 digits: see --text",
@@ -193,7 +201,8 @@ fn wide_exponent(line: u64, name: &[u8]) -> Error {
     )
 }
 
-/// Returns the error for a column of a file whose name an earlier one has.
+/// Returns the error for a column whose name an earlier column of the file has. The first column is
+/// 0.
 fn name_twice(rt: &HostRuntime, file: &str, column: usize, options: &Options<'_>) -> Error {
     let number = column.saturating_add(1);
     let error = trouble!("column {number} has the name of an earlier column");
@@ -204,7 +213,7 @@ fn name_twice(rt: &HostRuntime, file: &str, column: usize, options: &Options<'_>
     }
 }
 
-/// Returns the error for columns that can't be matched, with the file as context.
+/// Returns the error to print if columns can't be matched. It names the file.
 fn columns_trouble(
     rt: &HostRuntime,
     cause: ColumnError,
@@ -224,7 +233,8 @@ fn columns_trouble(
     }
 }
 
-/// Returns the error that is printed for one of a comparison of tables, with the file as context.
+/// Returns the error to print for an error in a comparison of tables. It names the file, if it is
+/// about one.
 pub(crate) fn table_trouble(
     rt: &HostRuntime,
     error: &RunError,
@@ -249,7 +259,8 @@ pub(crate) fn table_trouble(
     }
 }
 
-/// Returns the error for a row with a lesser key than the row before it.
+/// Returns the error for a row whose key is less than that of the row before it. A hint has a
+/// command that sorts the file.
 fn lesser_key(rt: &HostRuntime, file: &str, line: u64, options: &Options<'_>) -> Error {
     let error = trouble!("the row at line {line} has a lesser key than the row before it");
     let error = match sort_command(rt, file, options) {
@@ -261,8 +272,8 @@ fn lesser_key(rt: &HostRuntime, file: &str, line: u64, options: &Options<'_>) ->
     error.context(file)
 }
 
-/// Returns the error that is printed for one of a comparison of sorted tables, with the file as
-/// context.
+/// Returns the error to print for an error in a comparison of sorted tables. It names the file, if
+/// it is about one.
 pub(crate) fn sorted_trouble(
     rt: &HostRuntime,
     error: &SortedError,
@@ -280,7 +291,8 @@ pub(crate) fn sorted_trouble(
     }
 }
 
-/// Returns the reason why a line is not a document. `keys` are the paths of the keys.
+/// Returns the error that says why a line is not a document. `keys` are the paths of the key, as
+/// text.
 fn fault_text(fault: LineFault, keys: &[&[u8]]) -> Error {
     match fault {
         LineFault::NoPart { key } => match keys.get(key) {
@@ -293,7 +305,8 @@ fn fault_text(fault: LineFault, keys: &[&[u8]]) -> Error {
     }
 }
 
-/// Returns the error for a line that is not a document.
+/// Returns the error for a line that is not a document. `column` is the column of the fault in the
+/// line, if it is known, and the first column is 1. `keys` are the paths of the key, as text.
 fn line_trouble(line: u64, column: Option<u64>, fault: LineFault, keys: &[&[u8]]) -> Error {
     let text = fault_text(fault, keys);
     let Some(column) = column else {
@@ -306,8 +319,8 @@ fn line_trouble(line: u64, column: Option<u64>, fault: LineFault, keys: &[&[u8]]
     }
 }
 
-/// Returns the error for an input of documents that can't be read. `keys` are the paths of the
-/// keys.
+/// Returns the error for a file of documents that can't be read. `keys` are the paths of the key,
+/// as text.
 fn read_trouble(cause: &ReadError, keys: &[&[u8]]) -> Error {
     match cause {
         ReadError::Line {
@@ -319,10 +332,10 @@ fn read_trouble(cause: &ReadError, keys: &[&[u8]]) -> Error {
     }
 }
 
-/// The error where --skip-bad would leave no line of a file.
+/// The message if `--skip-bad` would skip all lines of a file.
 const ALL_SKIPPED: &str = "--skip-bad would skip every line";
 
-/// Returns the error for an input of documents whose schema can't be read.
+/// Returns the error to print if the schema of a file of documents can't be read.
 pub(crate) fn schema_trouble(error: &SchemaError) -> Error {
     match error {
         SchemaError::Read { cause } => read_trouble(cause, &[]),
@@ -331,7 +344,8 @@ pub(crate) fn schema_trouble(error: &SchemaError) -> Error {
     }
 }
 
-/// Returns a hint at the key that a line of a file lacks, if that is why it is not read.
+/// Returns a hint if a line of a file lacks a part of the key: the names in the document.
+/// Otherwise, or if the file can't be read again, returns `None`.
 fn key_hint(rt: &HostRuntime, file: &str, cause: &ReadError, keys: &[&[u8]]) -> Option<String> {
     match cause {
         ReadError::Line {
@@ -343,13 +357,14 @@ fn key_hint(rt: &HostRuntime, file: &str, cause: &ReadError, keys: &[&[u8]]) -> 
     }
 }
 
-/// Returns the error for a file of documents that can't be read. `keys` are the paths of the keys.
+/// Returns the error for a file of documents that can't be read, with the name of the file. `keys`
+/// are the paths of the key, as text.
 fn unread(rt: &HostRuntime, file: &str, cause: &ReadError, keys: &[&[u8]]) -> Error {
     with_hint(read_trouble(cause, keys), key_hint(rt, file, cause, keys)).context(file)
 }
 
-/// Returns the error that is printed for one of a comparison of documents, with the file as
-/// context.
+/// Returns the error to print for an error in a comparison of documents. It names the file, if it
+/// is about one.
 pub(crate) fn document_trouble(
     rt: &HostRuntime,
     error: &DocumentError,
