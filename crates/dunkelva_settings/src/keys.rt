@@ -1,4 +1,4 @@
-//! The keys of documents that the words of the command line give.
+//! The key of documents, as `--key` gives it.
 
 ghost use Rattle.std.specs.Prelude.{◌≡◌, length};
 
@@ -13,17 +13,17 @@ use json_paths::parse::parse_path;
 use json_paths::path::Path;
 use std::alloc::Global;
 
-/// Paths to the parts of a document that name it, and their names in a report.
+/// The paths to the parts of a document that are its key.
 #[derive(Drop)]
 pub struct Keys<'a> {
     /// The paths.
     pub paths: Vec<Path>,
-    /// The texts that write them.
+    /// The paths as text, as they are written on the command line. Reports use these names.
     pub names: Vec<&'a [u8]>,
     ghost paired: { length names.items ≡ length paths.items },
 }
 
-/// Refuses a key that is given twice.
+/// Fails if a key is given twice.
 pub(crate) fn refuse_repeated(keys: &[&[u8]]) -> Result<()> {
     for i in 0..keys.len() {
         if keys[..i].contains(&keys[i]) {
@@ -34,7 +34,7 @@ pub(crate) fn refuse_repeated(keys: &[&[u8]]) -> Result<()> {
     Ok(())
 }
 
-/// Returns the error for a word that is not the path of a key.
+/// Returns the error for the text `word`, which is not a path that a key can have.
 fn no_key(error: PathError, word: &str) -> Error {
     let is_list = matches!(error, PathError::Invalid) && word.contains("[]");
     let error = no_path(error, "key", "items[0].sku", word);
@@ -44,7 +44,7 @@ fn no_key(error: PathError, word: &str) -> Error {
     error
 }
 
-/// Returns the path that a word writes.
+/// Parses the path of a key. Fails if the text is not a path.
 fn path_of(alloc: Global, word: &str) -> Result<Path> {
     match parse_path(alloc, word) {
         Ok(path) => Ok(path),
@@ -52,7 +52,7 @@ fn path_of(alloc: Global, word: &str) -> Result<Path> {
     }
 }
 
-/// Returns the keys that these words write. Fails where one comes twice.
+/// Parses the paths of a key. Fails if a text is not a path, or a path is given twice.
 fn keys_in<'a>(alloc: Global, words: &[&'a str]) -> Result<Keys<'a>> {
     let mut paths = Vec::new(alloc);
     let mut names = Vec::new(alloc);
@@ -64,7 +64,8 @@ fn keys_in<'a>(alloc: Global, words: &[&'a str]) -> Result<Keys<'a>> {
     Ok(Keys { paths, names })
 }
 
-/// Returns the keys that the words give. Fails where one is given twice.
+/// Returns the key that `--key` gives, which is empty if the option is not given. Fails if a text
+/// is not a path, or a path is given twice.
 pub fn keys_of<'a>(alloc: Global, matches: &ArgMatches<'a>) -> Result<Keys<'a>> {
     let words = split_lists(alloc, matches.get_strs("key").unwrap_or(&[]))?;
     keys_in(alloc, &words)

@@ -1,4 +1,4 @@
-//! The kind of the files, by their names and the words of the command line.
+//! The kind of the input files, by their names and the options.
 
 use clap::ArgMatches;
 use dunkelva_messages::error::Result;
@@ -6,7 +6,7 @@ use dunkelva_messages::hints::refuse_packed;
 use dunkelva_messages::trouble;
 use dunkelva_options::options::{GoesWith, Takes, options};
 
-/// Returns whether the name of a file has this extension, in letters of any case.
+/// Returns whether a file name ends with `extension`. Letters may be of either case.
 fn has_extension(name: &str, extension: &str) -> bool {
     let (name, extension) = (name.as_bytes(), extension.as_bytes());
     if name.len() < extension.len() {
@@ -16,18 +16,18 @@ fn has_extension(name: &str, extension: &str) -> bool {
     end.eq_ignore_ascii_case(extension)
 }
 
-/// Returns whether a file of this name holds documents, one a line.
+/// Returns whether the name of a file says that it has a document in each line.
 fn names_lines(name: &str) -> bool {
     has_extension(name, ".ndjson") || has_extension(name, ".jsonl")
 }
 
-/// Returns whether a file of this name holds documents.
+/// Returns whether the name of a file says that it has JSON documents.
 fn names_documents(name: &str) -> bool {
     names_lines(name) || has_extension(name, ".json")
 }
 
-/// Refuses a file whose name does not say whether each of its lines is a document, or all of them
-/// are one.
+/// Fails if a file name ends with `.json`. Such a file may have a document in each line, or a
+/// single document.
 fn refuse_json(name: &str) -> Result<()> {
     if has_extension(name, ".json") {
         return Err(trouble!(
@@ -37,12 +37,13 @@ fn refuse_json(name: &str) -> Result<()> {
     Ok(())
 }
 
-/// Returns whether a file of this name holds a table.
+/// Returns whether the name of a file says that it is a CSV file.
 fn names_table(name: &str) -> bool {
     has_extension(name, ".csv") || has_extension(name, ".tsv")
 }
 
-/// Refuses a file of documents beside one that is no text in UTF-8, or is a table by its name.
+/// Fails if the file `documents` has JSON documents by its name, and the file `other` does not but
+/// is a CSV file by its name, or has a known format that is not UTF-8 text.
 fn refuse_beside(rt: &HostRuntime, documents: &str, other: &str) -> Result<()> {
     if !names_documents(documents) || names_documents(other) {
         return Ok(());
@@ -57,7 +58,7 @@ fn refuse_beside(rt: &HostRuntime, documents: &str, other: &str) -> Result<()> {
     Ok(())
 }
 
-/// Refuses two files of two formats, unless their format is given.
+/// Fails if the names of two files say that they have different formats, unless `--input` is given.
 pub fn refuse_two_formats(
     rt: &HostRuntime,
     matches: &ArgMatches<'_>,
@@ -71,8 +72,9 @@ pub fn refuse_two_formats(
     refuse_beside(rt, right, left)
 }
 
-/// Returns whether the two files hold documents, and not tables. Standard input has the kind of the
-/// other file.
+/// Returns whether the two files have documents, instead of tables. `--input` decides, or else the
+/// names of the files. Standard input has the kind of the other file. Fails if the names do not
+/// tell the kind, or contradict each other.
 pub fn hold_documents(matches: &ArgMatches<'_>, left: &str, right: &str) -> Result<bool> {
     if let Some(input) = matches.get_str("input") {
         return Ok(input == "ndjson");
@@ -94,8 +96,8 @@ pub fn hold_documents(matches: &ArgMatches<'_>, left: &str, right: &str) -> Resu
     Ok(in_left || in_right)
 }
 
-/// Returns the first option that is given and goes with files of this kind alone, among those that
-/// take a value or among those that take none.
+/// Returns the name of the first given option that is only for files of this kind, or `None` if
+/// there is none. Examines either the options that take a value, or those that do not.
 fn given_of(matches: &ArgMatches<'_>, kind: GoesWith, takes_value: bool) -> Option<&'static str> {
     for option in options() {
         let is_given = match option.takes {
@@ -109,7 +111,7 @@ fn given_of(matches: &ArgMatches<'_>, kind: GoesWith, takes_value: bool) -> Opti
     None
 }
 
-/// Refuses the options that only tables have.
+/// Fails if an option is given that is only for tables.
 pub fn refuse_table_options(matches: &ArgMatches<'_>) -> Result<()> {
     let tables = GoesWith::Tables;
     match given_of(matches, tables, true).or(given_of(matches, tables, false)) {
@@ -118,7 +120,7 @@ pub fn refuse_table_options(matches: &ArgMatches<'_>) -> Result<()> {
     }
 }
 
-/// Refuses the options that only documents have.
+/// Fails if an option is given that is only for documents.
 pub fn refuse_document_options(matches: &ArgMatches<'_>) -> Result<()> {
     let documents = GoesWith::Documents;
     match given_of(matches, documents, false).or(given_of(matches, documents, true)) {
@@ -127,8 +129,9 @@ pub fn refuse_document_options(matches: &ArgMatches<'_>) -> Result<()> {
     }
 }
 
-/// Returns the byte between fields if no word gives one: a tab in files whose names end in `.tsv`,
-/// and otherwise a comma. Standard input has the byte of the other file.
+/// Returns the delimiter of CSV files if `--delimiter` is not given: a tab if a file name ends with
+/// `.tsv`, and else a comma. Standard input has the delimiter of the other file. Fails if only one
+/// of two file names ends with `.tsv`.
 pub(crate) fn usual_delimiter(left: &str, right: &str) -> Result<u8> {
     let (in_left, in_right) = (has_extension(left, ".tsv"), has_extension(right, ".tsv"));
     if in_left != in_right && left != "-" && right != "-" {

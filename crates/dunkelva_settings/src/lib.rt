@@ -1,4 +1,4 @@
-//! What the words of a command line of the program `dunkelva` mean, and which are refused.
+//! The settings that the options of the program `dunkelva` give, and the options that are refused.
 #![tactic(auto)]
 
 pub mod keys;

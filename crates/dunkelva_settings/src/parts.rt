@@ -1,4 +1,4 @@
-//! The part of the rows or documents that is compared.
+//! The part of the rows or documents that `--partition` selects.
 
 use crate::words::Names;
 use clap::ArgMatches;
@@ -7,7 +7,8 @@ use dunkelva_messages::error::{Error, Result};
 use dunkelva_messages::names::quoted;
 use dunkelva_messages::trouble;
 
-/// Returns the part that a text such as 2/8 names.
+/// Parses a part of the form `I/N`, such as `2/8`. Returns `None` if the text has another form, or
+/// there is no such part.
 fn named_part(text: &str) -> Option<Part> {
     let (index, count) = text.split_once('/')?;
     match (index.parse::<u64>(), count.parse::<u64>()) {
@@ -16,8 +17,8 @@ fn named_part(text: &str) -> Option<Part> {
     }
 }
 
-/// Refuses keys that are compared as numbers, since the part of a row depends on the text of its
-/// keys.
+/// Fails if a key column is compared as numbers. The part that a row belongs to depends on the text
+/// of its key.
 fn refuse_numbers(matches: &ArgMatches<'_>, names: &Names<'_>) -> Result<()> {
     if !matches.get_flag("numbers") {
         return Ok(());
@@ -33,7 +34,7 @@ fn refuse_numbers(matches: &ArgMatches<'_>, names: &Names<'_>) -> Result<()> {
     Ok(())
 }
 
-/// Returns the error for an option that does not go with sorted files.
+/// Returns the error for an option that can't be given with `--sorted`.
 fn unsorted(option: &str) -> Error {
     let error = trouble!("--sorted does not go with --{option}");
     if option == "partition" {
@@ -42,7 +43,8 @@ fn unsorted(option: &str) -> Error {
     error.hint("use --partition for files past memory")
 }
 
-/// Refuses the options that do not go with sorted files, whose rows are merged as they are written.
+/// Fails if an option is given that can't be given with `--sorted`. Sorted files are merged by the
+/// bytes of their keys.
 pub fn refuse_unsorted(matches: &ArgMatches<'_>) -> Result<()> {
     if matches.get_flag("numbers") {
         return Err(unsorted("numbers"));
@@ -55,7 +57,8 @@ pub fn refuse_unsorted(matches: &ArgMatches<'_>) -> Result<()> {
     Ok(())
 }
 
-/// Returns the part of the rows that is compared, where one is asked for.
+/// Returns the part of the rows to compare, or `None` if all rows are compared. Fails if
+/// `--partition` is invalid, or a key column is compared as numbers.
 pub fn part_of_rows(matches: &ArgMatches<'_>, names: &Names<'_>) -> Result<Option<Part>> {
     if matches.contains_id("partition") {
         refuse_numbers(matches, names)?;
@@ -63,7 +66,8 @@ pub fn part_of_rows(matches: &ArgMatches<'_>, names: &Names<'_>) -> Result<Optio
     part_of(matches)
 }
 
-/// Returns the part of the documents that is compared, where one is asked for.
+/// Returns the part of the documents to compare, or `None` if all are compared. Fails if
+/// `--partition` is invalid.
 pub fn part_of(matches: &ArgMatches<'_>) -> Result<Option<Part>> {
     let Some(text) = matches.get_str("partition") else {
         return Ok(None);

@@ -1,4 +1,4 @@
-//! The rules for documents that the words of the command line give.
+//! The rules for documents that `--only`, `--ignore` and the tolerances give.
 
 use clap::ArgMatches;
 use dunkelva_messages::error::{Error, Result};
@@ -15,13 +15,14 @@ use json_tolerances::error::BoundError;
 use json_tolerances::order::is_less;
 use std::alloc::Global;
 
-/// The option whose bounds are numbers.
+/// The name of the option for absolute tolerances, whose bound is a number.
 pub const ABSOLUTE: &str = "tolerance";
 
-/// The option whose bounds are parts of the larger number.
+/// The name of the option for relative tolerances, whose bound is a fraction of the larger number.
 pub const RELATIVE: &str = "relative-tolerance";
 
-/// Returns the error for a word that is not a path. The example is a path that the option takes.
+/// Returns the error for the text `word`, which is not a path. `example` is a path that the option
+/// accepts.
 pub(crate) fn no_path(error: PathError, option: &str, example: &str, word: &str) -> Error {
     match error {
         PathError::Memory => trouble!("out of memory"),
@@ -32,7 +33,7 @@ pub(crate) fn no_path(error: PathError, option: &str, example: &str, word: &str)
     }
 }
 
-/// Returns the pattern that a word of an option writes.
+/// Parses a pattern that is given with an option. Fails if the text is not a pattern.
 fn pattern_of(alloc: Global, option: &str, word: &str) -> Result<Pattern> {
     match parse_pattern(alloc, word) {
         Ok(pattern) => Ok(pattern),
@@ -40,7 +41,8 @@ fn pattern_of(alloc: Global, option: &str, word: &str) -> Result<Pattern> {
     }
 }
 
-/// Appends the patterns in the lists that an option takes.
+/// Parses the patterns in the lists of an option, and appends them. Fails if a text is not a
+/// pattern.
 fn push_patterns(
     patterns: &mut Vec<Pattern>,
     alloc: Global,
@@ -54,14 +56,15 @@ fn push_patterns(
     Ok(())
 }
 
-/// Returns the number in front of a percent sign, if it is one that an exponent may follow.
+/// Returns the number before a percent sign, or `None` if the text is not a number without an
+/// exponent and a percent sign.
 fn without_percent(word: &str) -> Option<&str> {
     let number = word.strip_suffix('%')?;
     let is_plain = !number.contains(['e', 'E']) && Bound::read(number).is_ok();
     is_plain.then_some(number)
 }
 
-/// Returns whether a text is a number that lacks the 0 before its point.
+/// Returns whether a text is a number without a digit before its point, such as `.5`.
 fn lacks_zero(word: &str) -> bool {
     match word.strip_prefix('.') {
         Some(rest) => is_digits(rest),
@@ -69,12 +72,12 @@ fn lacks_zero(word: &str) -> bool {
     }
 }
 
-/// Returns whether a text is digits alone.
+/// Returns whether a text consists of one or more digits.
 fn is_digits(text: &str) -> bool {
     !text.is_empty() && text.bytes().all(|byte| byte.is_ascii_digit())
 }
 
-/// Returns the error for a word that is no bound, with what may be meant.
+/// Returns the error for the text `word`, which is not a bound. A hint says what may be meant.
 fn no_bound(option: &str, word: &str, error: BoundError) -> Error {
     let trouble = trouble!("--{option}: the bound {} {error}", quoted(word));
     if lacks_zero(word) {
@@ -89,7 +92,7 @@ fn no_bound(option: &str, word: &str, error: BoundError) -> Error {
     }
 }
 
-/// Returns the error for a word that has no bound. `takes` says what the option takes.
+/// Returns the error for a tolerance without a bound. `takes` says what the option takes.
 pub(crate) fn without_bound(option: &str, takes: &str, word: &str) -> Error {
     let error = trouble!("--{option} takes {takes}, not {}", quoted(word));
     if is_digits(word) {
@@ -98,11 +101,11 @@ pub(crate) fn without_bound(option: &str, takes: &str, word: &str) -> Error {
     error
 }
 
-/// The relative bound that any two numbers keep: they lie at most twice the larger one apart.
+/// The relative bound that allows any two numbers, which differ by at most twice the larger one.
 const ANY_TWO: &str = "2";
 
-/// Refuses a relative bound above the one that any two numbers keep. It may be meant as a
-/// percentage.
+/// Fails if a relative bound is greater than 2, which allows any two numbers. The bound may be
+/// meant as a percentage.
 fn refuse_any_two(word: &str) -> Result<()> {
     if !matches!(is_less(ANY_TWO, word), Ok(true)) {
         return Ok(());
@@ -117,7 +120,8 @@ fn refuse_any_two(word: &str) -> Result<()> {
     Err(error)
 }
 
-/// Returns the margin that a word of an option writes.
+/// Parses the bound of a tolerance. It is relative if the option is `RELATIVE`, and else absolute.
+/// Fails if the text is not a bound, or a relative bound is greater than 2.
 pub(crate) fn margin_of(option: &str, word: &str) -> Result<Margin> {
     match Bound::read(word) {
         Ok(bound) if option == RELATIVE => {
@@ -129,8 +133,8 @@ pub(crate) fn margin_of(option: &str, word: &str) -> Result<Margin> {
     }
 }
 
-/// Returns the tolerance that a word of an option writes: a path, and after the last equals sign a
-/// bound.
+/// Parses a tolerance for documents: a path, an equals sign, and a bound. The last equals sign
+/// counts. Fails if there is none, or if the path or the bound is invalid.
 fn tolerance_of(alloc: Global, option: &str, word: &str) -> Result<Tolerance> {
     let Some((path, number)) = word.rsplit_once('=') else {
         let takes = "a path and a bound such as items[].price=0.01";
@@ -141,7 +145,7 @@ fn tolerance_of(alloc: Global, option: &str, word: &str) -> Result<Tolerance> {
     Ok(Tolerance { pattern, margin })
 }
 
-/// Appends the tolerances in the lists that an option takes.
+/// Parses the tolerances in the lists of an option, and appends them. Fails if one is invalid.
 fn push_tolerances(
     tolerances: &mut Vec<Tolerance>,
     alloc: Global,
@@ -155,7 +159,7 @@ fn push_tolerances(
     Ok(())
 }
 
-/// Appends the rules in the lists that the words give.
+/// Parses the rules of all options, and appends them to `rules`. Fails if one is invalid.
 fn read_rules(rules: &mut Rules, alloc: Global, matches: &ArgMatches<'_>) -> Result<()> {
     push_patterns(&mut rules.ignored, alloc, matches, "ignore")?;
     push_patterns(&mut rules.only, alloc, matches, "only")?;
@@ -163,7 +167,7 @@ fn read_rules(rules: &mut Rules, alloc: Global, matches: &ArgMatches<'_>) -> Res
     push_tolerances(&mut rules.tolerances, alloc, matches, RELATIVE)
 }
 
-/// Returns the rules that the words give.
+/// Returns the rules that the options give. Fails if one is invalid.
 pub fn rules_of(alloc: Global, matches: &ArgMatches<'_>) -> Result<Rules> {
     let mut rules = Rules {
         ignored: Vec::new(alloc),

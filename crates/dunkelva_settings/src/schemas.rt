@@ -1,4 +1,4 @@
-//! The settings for schemas that the words of the command line give.
+//! The settings for schemas.
 
 use clap::ArgMatches;
 use clap::parser::ValueSource;
@@ -6,12 +6,12 @@ use dunkelva_messages::error::Result;
 use dunkelva_messages::trouble;
 use dunkelva_options::options::{Takes, options, refused_by};
 
-/// Returns the word that stands for null, if there is one.
+/// Returns the text that stands for null in CSV files, or `None` if `--null` is not given.
 pub fn null_in<'m>(matches: &'m ArgMatches<'_>) -> Option<&'m [u8]> {
     matches.get_str("null").map(|word| word.as_bytes())
 }
 
-/// Refuses options that only tables have.
+/// Fails if an option of `dunkelva schema` is given that is only for tables.
 pub fn refuse_of_tables(matches: &ArgMatches<'_>) -> Result<()> {
     for option in ["null", "delimiter"] {
         if matches.contains_id(option) {
@@ -24,7 +24,7 @@ pub fn refuse_of_tables(matches: &ArgMatches<'_>) -> Result<()> {
     Ok(())
 }
 
-/// Refuses an option that only documents have.
+/// Fails if an option of `dunkelva schema` is given that is only for documents.
 pub fn refuse_of_documents(matches: &ArgMatches<'_>) -> Result<()> {
     if matches.get_flag("skip-bad") {
         return Err(trouble!("--skip-bad is for JSON documents alone"));
@@ -32,12 +32,13 @@ pub fn refuse_of_documents(matches: &ArgMatches<'_>) -> Result<()> {
     Ok(())
 }
 
-/// Returns whether an option that takes a value is given, and does not have its default alone.
+/// Returns whether an option that takes a value is given on the command line. A default does not
+/// count.
 fn has_value(matches: &ArgMatches<'_>, option: &str) -> bool {
     matches.value_source(option) == Some(ValueSource::CommandLine)
 }
 
-/// Refuses options that can't be given with `--schema-only`.
+/// Fails if an option is given that can't be given with `--schema-only`.
 pub fn refuse_others(matches: &ArgMatches<'_>) -> Result<()> {
     let refused = refused_by("schema-only");
     for option in options() {

@@ -1,4 +1,4 @@
-//! The tolerances for columns that the words of the command line give.
+//! The tolerances for columns.
 
 use crate::rules::{ABSOLUTE, RELATIVE, margin_of, without_bound};
 use crate::words::unquoted;
@@ -10,7 +10,7 @@ use dunkelva_messages::trouble;
 use dunkelva_options::lists::split_lists;
 use std::alloc::Global;
 
-/// Refuses a column that is a key, since keys are compared exactly.
+/// Fails if a column is a key. Keys are compared exactly.
 fn refuse_key(option: &str, column: &str, keys: &[&[u8]]) -> Result<()> {
     if keys.contains(&column.as_bytes()) {
         return Err(trouble!(
@@ -21,8 +21,8 @@ fn refuse_key(option: &str, column: &str, keys: &[&[u8]]) -> Result<()> {
     Ok(())
 }
 
-/// Returns the tolerance that a word of an option writes: a column, and after the last equals sign
-/// a bound.
+/// Parses a tolerance for a column: a name, an equals sign, and a bound. The last equals sign
+/// counts. Fails if there is none, if the column is a key, or if the bound is invalid.
 fn tolerance_of<'a>(option: &str, word: &'a str, keys: &[&[u8]]) -> Result<Tolerance<'a>> {
     let Some((column, number)) = word.rsplit_once('=') else {
         let takes = "a column and a bound such as amount=0.01";
@@ -37,7 +37,8 @@ fn tolerance_of<'a>(option: &str, word: &'a str, keys: &[&[u8]]) -> Result<Toler
     })
 }
 
-/// Appends the tolerances in the lists that an option takes. A comma in quotes is part of a name.
+/// Parses the tolerances in the comma-separated lists of an option, and appends them. A comma
+/// within quotes is part of a name.
 fn push_tolerances<'a>(
     tolerances: &mut Vec<Tolerance<'a>>,
     alloc: Global,
@@ -52,7 +53,8 @@ fn push_tolerances<'a>(
     Ok(())
 }
 
-/// Returns the tolerances for columns that the words give. Fails where one is for a key.
+/// Returns the tolerances for columns that the options give. Fails if one is invalid, or is for a
+/// key column.
 pub fn tolerances_of<'a>(
     alloc: Global,
     matches: &ArgMatches<'a>,

@@ -1,4 +1,4 @@
-//! The settings that the words of the command line give.
+//! The settings for tables and for the report.
 
 use crate::keys::refuse_repeated;
 use crate::kinds::usual_delimiter;
@@ -15,20 +15,20 @@ use std::env;
 use std::env::VarError;
 use std::io::IsTerminal;
 
-/// The names of columns that the words give, each as its bytes.
+/// The names of columns that the options give, as bytes.
 #[derive(Drop)]
 pub struct Names<'a> {
-    /// The columns that are keys.
+    /// The key columns.
     pub keys: Vec<&'a [u8]>,
-    /// The columns that are compared, if some are named.
+    /// The columns to compare, as `--only` gives them. Empty if it is not given.
     pub only: Vec<&'a [u8]>,
     /// The columns that are not compared.
     pub ignored: Vec<&'a [u8]>,
-    /// The columns that are compared as texts.
+    /// The columns whose cells are compared as text.
     pub texts: Vec<&'a [u8]>,
 }
 
-/// Returns a name without the quotes around it, if there are some.
+/// Returns a name without the quotes around it, or unchanged if it has none.
 pub(crate) fn unquoted(name: &str) -> &str {
     match name.strip_prefix('"') {
         Some(rest) => rest.strip_suffix('"').unwrap_or(name),
@@ -36,7 +36,8 @@ pub(crate) fn unquoted(name: &str) -> &str {
     }
 }
 
-/// Appends the names in a list in which some stand in quotes. A comma in quotes is part of a name.
+/// Appends the names in a comma-separated list, without their quotes. A comma within quotes is part
+/// of a name.
 fn push_quoted<'a>(
     names: &mut Vec<&'a [u8]>,
     alloc: Global,
@@ -48,7 +49,8 @@ fn push_quoted<'a>(
     Ok(())
 }
 
-/// Appends the names in a list with commas between them.
+/// Appends the names in a comma-separated list. Quotes count only if one stands at the beginning of
+/// the list or directly after a comma.
 fn push_list<'a>(
     names: &mut Vec<&'a [u8]>,
     alloc: Global,
@@ -63,7 +65,7 @@ fn push_list<'a>(
     Ok(())
 }
 
-/// Appends the names in the lists that an option takes.
+/// Appends the names in all lists of an option.
 fn push_names<'a>(
     names: &mut Vec<&'a [u8]>,
     alloc: Global,
@@ -77,7 +79,7 @@ fn push_names<'a>(
 }
 
 impl<'a> Names<'a> {
-    /// Appends the names that the words give. Fails where a key is given twice.
+    /// Appends the names that the options give. Fails if a key is given twice.
     fn read(&mut self, alloc: Global, matches: &ArgMatches<'a>) -> Result<()> {
         push_names(&mut self.keys, alloc, matches, "key")?;
         push_names(&mut self.only, alloc, matches, "only")?;
@@ -86,7 +88,7 @@ impl<'a> Names<'a> {
         refuse_repeated(&self.keys)
     }
 
-    /// Returns the names that the words give. Fails where a key is given twice.
+    /// Returns the names that the options give. Fails if a key is given twice.
     pub fn of(alloc: Global, matches: &ArgMatches<'a>) -> Result<Names<'a>> {
         let mut names = Names {
             keys: Vec::new(alloc),
@@ -99,8 +101,8 @@ impl<'a> Names<'a> {
     }
 }
 
-/// Returns the byte that a text stands for: its only byte, or a tab for `\t`. Neither a quote nor
-/// the end of a line may stand between fields.
+/// Parses a delimiter: a single byte, or `\t` for a tab. Fails for other texts, and if the byte is
+/// a quote or ends lines.
 fn delimiter_of(text: &str) -> Result<u8> {
     let byte = match text.as_bytes() {
         b"\\t" => b'\t',
@@ -118,7 +120,8 @@ fn delimiter_of(text: &str) -> Result<u8> {
     Ok(byte)
 }
 
-/// Returns the options for reading two tables.
+/// Returns the options for reading two CSV files. Fails if `--delimiter` is invalid, or if the file
+/// names tell two delimiters.
 pub fn csv_options(matches: &ArgMatches<'_>, left: &str, right: &str) -> Result<CsvOptions> {
     let delimiter = match matches.get_str("delimiter") {
         Some(text) => delimiter_of(text)?,
@@ -130,8 +133,9 @@ pub fn csv_options(matches: &ArgMatches<'_>, left: &str, right: &str) -> Result<
     })
 }
 
-/// Returns the whole number that an option is given, or its default. Fails with what the option
-/// takes if it is none.
+/// Parses the value of an option as an integer. Returns `None` if the option has no value and no
+/// default. Fails if the value is not an integer from 0 on. `takes` says in the error what the
+/// option takes.
 fn number_of(matches: &ArgMatches<'_>, option: &str, takes: &str) -> Result<Option<usize>> {
     let Some(text) = matches.get_str(option) else {
         return Ok(None);
@@ -142,26 +146,28 @@ fn number_of(matches: &ArgMatches<'_>, option: &str, takes: &str) -> Result<Opti
     }
 }
 
-/// The destination and the form of the report.
+/// The destination and the form of a report.
 #[derive(Clone, Copy)]
 pub enum Target<'a> {
     /// Standard output.
     Output,
     /// Standard output, as Markdown.
     Markdown,
-    /// Standard output, in aligned columns on a terminal of this width, with colours or without.
+    /// Standard output, in aligned columns, as wide as a terminal of this width. The flag is `true`
+    /// if there are colours.
     Aligned(usize, bool),
-    /// A file of this name, as a page to look at.
+    /// The file of this name, as an HTML page.
     Page(&'a str),
 }
 
-/// The most differences in a page, where no other number is given.
+/// The most differences in a page if `--limit` is not given.
 const MOST_IN_PAGE: usize = 10_000;
 
-/// The least number of columns that aligned columns are printed in.
+/// The least width for aligned columns.
 const LEAST_WIDTH: usize = 40;
 
-/// Returns the width of the terminal, if aligned columns are asked for. Fails if it is too small.
+/// Returns the width for aligned columns, or `None` if `--width` is not given. Fails if it is less
+/// than 40, or not an integer.
 fn width_of(matches: &ArgMatches<'_>) -> Result<Option<usize>> {
     let width = number_of(matches, "width", "a whole number of columns such as 100")?;
     if let Some(width) = width
@@ -172,7 +178,8 @@ fn width_of(matches: &ArgMatches<'_>) -> Result<Option<usize>> {
     Ok(width)
 }
 
-/// Returns the destination and the form of the report.
+/// Returns the destination and the form of the report. Fails if `--width` is invalid, or `--html`
+/// names standard output.
 pub fn target_of<'a>(rt: &HostRuntime, matches: &ArgMatches<'a>) -> Result<Target<'a>> {
     if let Some(width) = width_of(matches)? {
         let colored = is_colored(rt, matches);
@@ -188,7 +195,9 @@ pub fn target_of<'a>(rt: &HostRuntime, matches: &ArgMatches<'a>) -> Result<Targe
     }
 }
 
-/// Returns the number of differences to print. On the command line the limit 0 stands for all.
+/// Returns the greatest number of differences to print: 0 with `--summary`, and all with `--limit
+/// 0`. Without `--limit` it is 10,000 for a page, and else 20. Fails if `--limit` is not an integer
+/// from 0 on.
 pub fn limit_of(matches: &ArgMatches<'_>) -> Result<usize> {
     let limit = number_of(matches, "limit", "a whole number such as 100, or 0 for all")?;
     if matches.get_flag("summary") {
@@ -205,7 +214,8 @@ pub fn limit_of(matches: &ArgMatches<'_>) -> Result<usize> {
     }
 }
 
-/// Returns the format of the report. Pages, Markdown and aligned columns are made of JSON lines.
+/// Returns the format in which the report is made. Pages, Markdown and aligned columns are made of
+/// JSON lines.
 pub fn format_of(matches: &ArgMatches<'_>) -> Format {
     if matches.contains_id("html") || matches.get_flag("markdown") || matches.contains_id("width") {
         return Format::Json;
@@ -216,7 +226,7 @@ pub fn format_of(matches: &ArgMatches<'_>) -> Format {
     }
 }
 
-/// Returns whether the environment asks for no colours: `NO_COLOR` is there, and not empty.
+/// Returns whether the environment variable `NO_COLOR` is set and not empty.
 fn asks_no_color(rt: &HostRuntime) -> bool {
     match env::var(rt, "NO_COLOR") {
         Ok(value) => !value.is_empty(),
@@ -225,7 +235,8 @@ fn asks_no_color(rt: &HostRuntime) -> bool {
     }
 }
 
-/// Returns whether the report has colours: if they are asked for, or on a terminal.
+/// Returns whether the report has colours. By default it has on a terminal, unless `NO_COLOR` is
+/// set.
 pub fn is_colored(rt: &HostRuntime, matches: &ArgMatches<'_>) -> bool {
     match matches.get_str("color") {
         Some("always") => true,
