@@ -4,17 +4,17 @@ use std::error::Error as StdError;
 use std::fmt;
 use std::fmt::{Display, Formatter, InlineText};
 
-/// The most bytes of a message. What does not fit is cut, so that a message names at most a few
-/// things that may be long, and those last.
+/// The greatest length of a message, in bytes. A longer message is cut. Long names therefore come
+/// last in a message.
 const ROOM: usize = 2000;
 
-/// The most bytes of the name of a file, which is as long as a path that can be opened.
+/// The greatest length of a file name in an error, in bytes. A longer path can't be opened.
 const NAME_ROOM: usize = 4096;
 
-/// The lengths of a record and of the first one, in fields.
+/// The number of fields of a record, and that of the first record.
 #[derive(Clone, Copy)]
 pub struct Lengths {
-    /// The number of fields of the first record, which is expected of the others.
+    /// The number of fields of the first record. All records should have as many.
     pub expected: u64,
     /// The number of fields of the record.
     pub found: u64,
@@ -22,33 +22,33 @@ pub struct Lengths {
     pub delimiter: u8,
 }
 
-/// The part of a file that an error is about.
+/// The cause of an error in a file, from which a hint is made.
 #[derive(Clone, Copy)]
 pub enum About {
-    /// Its records, which are read as CSV.
+    /// The file can't be read as CSV.
     Records,
-    /// A record with another number of fields than the first one.
+    /// A record has another number of fields than the first one.
     Lengths(Lengths),
-    /// A place in a line that is no document.
+    /// A line is not a document. The fault is at this column; the first line and column are 1.
     Line { line: u64, column: u64 },
-    /// Something else.
+    /// Anything else.
     Other,
 }
 
-/// An error with its message, and the file that it is about, if there is one.
+/// An error to print: a message, and the name of the file, if it is about one.
 #[derive(Drop)]
 pub struct Error {
-    // The braces keep the numbers out of the types of other modules.
+    // The braces keep the two constants out of the types that other modules see.
     name: Option<InlineText<{ NAME_ROOM }>>,
     message: InlineText<{ ROOM }>,
     about: About,
 }
 
-/// The result of what may fail with a message.
+/// A result whose error has a message to print.
 pub type Result<T, E = Error> = std::result::Result<T, E>;
 
 impl Error {
-    /// Returns the error with this message.
+    /// Creates an error with a message.
     pub fn msg<M: Display + Drop>(message: M) -> Error {
         Error {
             name: None,
@@ -57,7 +57,7 @@ impl Error {
         }
     }
 
-    /// Adds the name of the file that the error is about, or of a stream.
+    /// Sets the name of the file or stream that the error is about.
     pub fn context(self, name: &str) -> Error {
         Error {
             name: Some(InlineText::of(name)),
@@ -65,12 +65,12 @@ impl Error {
         }
     }
 
-    /// Adds the part of the file that the error is about.
+    /// Sets the cause of the error in the file.
     pub fn about(self, about: About) -> Error {
         Error { about, ..self }
     }
 
-    /// Adds a hint after the message.
+    /// Appends a colon and a hint to the message.
     pub fn hint<M: Display + Drop>(self, hint: M) -> Error {
         Error {
             message: self.message.and_str(": ", ROOM).and(hint, ROOM),
@@ -78,7 +78,7 @@ impl Error {
         }
     }
 
-    /// Returns the name of the file that the error is about, if there is one.
+    /// Returns the name of the file that the error is about, or `None` if it is about none.
     pub fn file(&self) -> Option<&str> {
         match &self.name {
             Some(name) => Some(name.as_str()),
@@ -86,12 +86,13 @@ impl Error {
         }
     }
 
-    /// Returns the part of the file that the error is about.
+    /// Returns the cause of the error in the file.
     pub fn part(&self) -> About {
         self.about
     }
 
-    /// Returns the beginning of the message, which names the options that it is about.
+    /// Returns the message up to the first colon and blank. This part names the options that the
+    /// error is about.
     pub fn claim(&self) -> &str {
         let message = self.message.as_str();
         match message.split_once(": ") {

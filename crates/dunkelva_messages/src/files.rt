@@ -1,21 +1,21 @@
-//! The files that are compared.
+//! The input files.
 
 use crate::error::Result;
 use std::io::{Read, StdinLock};
 use std::os::fd::AsRawFd;
 use std::{fs, io};
 
-/// The source of an input.
+/// An open input.
 #[derive(Drop)]
 pub enum Source {
-    /// A file that is named.
+    /// A file.
     File(fs::File),
     /// Standard input.
     Standard(StdinLock<'static>),
 }
 
 impl Source {
-    /// Returns the number of bytes of the source, or `None` if it is not an ordinary file.
+    /// Returns the number of bytes of a regular file, or `None` for any other input.
     pub fn size(&self) -> Option<u64> {
         let Source::File(file) = self else {
             return None;
@@ -38,8 +38,8 @@ impl Read for Source {
     }
 }
 
-/// Opens a file. `is_beside` says that the other input is standard input. If that is closed, the
-/// file is opened in its place, which is an error.
+/// Opens a file. `is_beside` is true if the other input is standard input. If standard input is
+/// closed, the file gets its descriptor, which is an error then.
 fn open_file(rt: &HostRuntime, name: &str, is_beside: bool) -> Result<fs::File> {
     match fs::open(rt, name) {
         Ok(file) => {
@@ -52,7 +52,8 @@ fn open_file(rt: &HostRuntime, name: &str, is_beside: bool) -> Result<fs::File> 
     }
 }
 
-/// Opens the input of a name. `is_beside` says that one of the inputs is standard input.
+/// Opens an input. The name `-` is standard input. `is_beside` is true if one of the inputs is
+/// standard input.
 pub fn open(rt: &HostRuntime, name: &str, is_beside: bool) -> Result<Source> {
     if name == "-" {
         return Ok(Source::Standard(rt.reader()));
@@ -60,20 +61,22 @@ pub fn open(rt: &HostRuntime, name: &str, is_beside: bool) -> Result<Source> {
     Ok(Source::File(open_file(rt, name, is_beside)?))
 }
 
-/// Opens a file that was read before once more, if it is an ordinary file.
+/// Opens an input again that was read before. Returns `None` unless it is a regular file that can
+/// be opened.
 pub fn open_again(rt: &HostRuntime, name: &str) -> Option<Source> {
-    // Standard input is not read twice, also where a file has this name.
+    // Standard input can't be read again. A file named `-` is not opened either.
     if name == "-" {
         return None;
     }
-    // A pipe is not opened: without a writer that would take for ever.
+    // A pipe is not opened, since that would wait for a writer.
     if !fs::metadata(rt, name).ok()?.is_file() {
         return None;
     }
     open(rt, name, false).ok()
 }
 
-/// Returns the number of bytes of two sources, if both are known.
+/// Returns the number of bytes of two inputs together, or `None` if one is unknown or the sum is
+/// too large.
 pub fn total_of(left: &Source, right: &Source) -> Option<u64> {
     left.size()?.checked_add(right.size()?)
 }

@@ -1,4 +1,4 @@
-//! Hints at what a file is that can't be compared.
+//! Hints about files that can't be compared.
 
 use crate::error::{About, Error, Lengths, Result};
 use crate::files::open_again;
@@ -6,7 +6,8 @@ use crate::lines::{BLANKS, line_bytes};
 use crate::slips::slip_at;
 use std::io::Read;
 
-/// Returns what a file is that begins with these bytes, if it is no text in UTF-8.
+/// Returns a hint if the first bytes of a file show a known format that is not UTF-8 text, such as
+/// gzip, and else `None`.
 fn what_begins(head: &[u8]) -> Option<&'static str> {
     match head {
         [0x1f, 0x8b, ..] => Some("it is compressed by gzip: unpack it, as in <(zcat FILE)"),
@@ -22,7 +23,8 @@ fn what_begins(head: &[u8]) -> Option<&'static str> {
     }
 }
 
-/// Returns what an ordinary file is by its first bytes, if it is no text in UTF-8.
+/// Returns a hint if the first bytes of a regular file show a known format that is not UTF-8 text.
+/// Otherwise, or if the file can't be read again, returns `None`.
 fn what_is(rt: &HostRuntime, file: &str) -> Option<&'static str> {
     let mut reader = open_again(rt, file)?;
     let mut head = [0; 4];
@@ -30,7 +32,8 @@ fn what_is(rt: &HostRuntime, file: &str) -> Option<&'static str> {
     what_begins(head.get(..count)?)
 }
 
-/// Refuses an ordinary file that is no text in UTF-8 by its first bytes.
+/// Fails if the first bytes of a regular file show a known format that is not UTF-8 text, such as
+/// gzip.
 pub fn refuse_packed(rt: &HostRuntime, file: &str) -> Result<()> {
     match what_is(rt, file) {
         Some(what) => Err(trouble!("{what}").context(file)),
@@ -38,7 +41,8 @@ pub fn refuse_packed(rt: &HostRuntime, file: &str) -> Result<()> {
     }
 }
 
-/// Returns whether an ordinary file begins as JSON lines do.
+/// Returns whether the first byte of a regular file is `{`, as in a file of JSON documents. Returns
+/// false if the file can't be read again.
 pub fn begins_object(rt: &HostRuntime, file: &str) -> bool {
     let Some(mut reader) = open_again(rt, file) else {
         return false;
@@ -47,12 +51,12 @@ pub fn begins_object(rt: &HostRuntime, file: &str) -> bool {
     matches!(reader.read(&mut head), Ok(1)) && head == [b'{']
 }
 
-/// Returns a hint at what an ordinary file is that can't be read as CSV.
+/// Returns a hint if a regular file can't be read as CSV because it seems to have JSON documents.
 fn records_hint(rt: &HostRuntime, file: &str) -> Option<&'static str> {
     begins_object(rt, file).then_some("it looks like JSON lines: give --input ndjson")
 }
 
-/// The bytes that may stand between fields, each with a question.
+/// The bytes that commonly separate fields, each with the hint for it.
 const DELIMITERS: [(char, &str); 4] = [
     (';', "is ';' the --delimiter?"),
     ('\t', "is a tab the --delimiter? It is \\t"),
@@ -60,29 +64,30 @@ const DELIMITERS: [(char, &str); 4] = [
     (',', "is ',' the --delimiter?"),
 ];
 
-/// Returns the first line of an ordinary file, if it is UTF-8.
+/// Returns the first line of a regular file, or `None` if it can't be read again or is not UTF-8.
 fn first_line(rt: &HostRuntime, file: &str) -> Option<String> {
     String::from_utf8(line_bytes(rt, file, 1)?).ok()
 }
 
-/// Returns whether a line names the delimiter, as spreadsheets write it: `sep=;`.
+/// Returns whether a line tells a spreadsheet the delimiter, as in `sep=;`.
 fn names_delimiter(line: &str) -> bool {
     let line = line.trim_start_matches('\u{feff}').trim_end_matches('\r');
     line.strip_prefix("sep=")
         .is_some_and(|rest| rest.len() == 1)
 }
 
-/// The hint for a file whose first line names the delimiter.
+/// The hint for a file whose first line tells a spreadsheet the delimiter.
 const NO_RECORD: &str =
     "the first line tells a spreadsheet the delimiter: leave it out, as in <(tail -n +2 FILE)";
 
-/// Returns a hint at the first line of an ordinary file, if it is no record.
+/// Returns a hint if the first line of a regular file tells a spreadsheet the delimiter, and else
+/// `None`.
 pub fn first_line_hint(rt: &HostRuntime, file: &str) -> Option<&'static str> {
     names_delimiter(&first_line(rt, file)?).then_some(NO_RECORD)
 }
 
-/// Returns a question about the byte between fields of an ordinary file whose first record is read
-/// as one field.
+/// Returns a hint for a regular file whose first record has a single field: the question whether
+/// another byte is the delimiter. Returns `None` if no other byte is likely.
 fn delimiter_hint(rt: &HostRuntime, file: &str) -> Option<&'static str> {
     let first = first_line(rt, file)?;
     for (delimiter, question) in DELIMITERS {
@@ -93,7 +98,8 @@ fn delimiter_hint(rt: &HostRuntime, file: &str) -> Option<&'static str> {
     None
 }
 
-/// Returns a question about a record that has too many fields, with this byte between them.
+/// Returns a hint for a record with too many fields: the question whether a field has the delimiter
+/// but no quotes.
 fn fields_hint(delimiter: u8) -> &'static str {
     match delimiter {
         b',' => "is a field with a comma not in quotes?",
@@ -103,7 +109,7 @@ fn fields_hint(delimiter: u8) -> &'static str {
     }
 }
 
-/// Returns a hint at what an ordinary file is whose records differ in length.
+/// Returns a hint for a file with records of different lengths, or `None` if none is known.
 fn lengths_hint(rt: &HostRuntime, file: &str, lengths: Lengths) -> Option<&'static str> {
     if let Some(hint) = records_hint(rt, file) {
         return Some(hint);
@@ -119,7 +125,8 @@ fn lengths_hint(rt: &HostRuntime, file: &str, lengths: Lengths) -> Option<&'stat
     (lengths.found > lengths.expected).then_some(fields_hint(lengths.delimiter))
 }
 
-/// Returns a hint at what a file is by its first line, which is no document.
+/// Returns a hint for a file of documents whose first line is not a document, or `None` if none is
+/// known.
 fn start_hint(text: &str) -> Option<&'static str> {
     let start = text.trim_matches(BLANKS);
     if text.starts_with('\u{feff}') {
@@ -133,11 +140,12 @@ fn start_hint(text: &str) -> Option<&'static str> {
     }
 }
 
-/// The hint for a line with bytes that are not UTF-8.
+/// The hint for a line that is not UTF-8.
 const NO_TEXT: &str =
     "the line is not UTF-8: convert the file, as in <(iconv -f LATIN1 -t UTF-8 FILE)";
 
-/// Returns a hint at what is wrong with a line of an ordinary file that is no document.
+/// Returns a hint for a line of a regular file that is not a document, or `None` if none is known.
+/// The first line and the first column are 1.
 fn line_hint(rt: &HostRuntime, file: &str, line: u64, column: u64) -> Option<&'static str> {
     let bytes = line_bytes(rt, file, line)?;
     let Ok(text) = str::from_utf8(&bytes) else {
@@ -154,7 +162,7 @@ fn line_hint(rt: &HostRuntime, file: &str, line: u64, column: u64) -> Option<&'s
     slip_at(rt.alloc(), text, column)
 }
 
-/// Returns a hint at what is wrong with the file that an error is about.
+/// Returns a hint for an error in a file, or `None` if none is known.
 fn hint_of(rt: &HostRuntime, error: &Error) -> Option<&'static str> {
     let file = error.file()?;
     match error.part() {
@@ -165,7 +173,7 @@ fn hint_of(rt: &HostRuntime, error: &Error) -> Option<&'static str> {
     }
 }
 
-/// Returns an error with a hint at what is wrong with its file, if one is known.
+/// Adds a hint to an error in a file, if one is known.
 fn with_hint(rt: &HostRuntime, error: Error) -> Error {
     match hint_of(rt, &error) {
         Some(hint) => error.hint(hint),
@@ -173,8 +181,9 @@ fn with_hint(rt: &HostRuntime, error: Error) -> Error {
     }
 }
 
-/// Returns the error for files that can't be read or compared: that one of them is no text in
-/// UTF-8, or else `error`, with a hint if one is known.
+/// Returns the error to print for `error`, which occurred while `files` were compared. If one of
+/// the files has a known format that is not UTF-8 text, that becomes the error, unless `error` is
+/// about another file. Otherwise a hint is added to `error`, if one is known.
 pub fn explained(rt: &HostRuntime, error: Error, files: &[&str]) -> Error {
     for file in files {
         let is_of_other = error.file().is_some_and(|name| name != *file);

@@ -1,7 +1,7 @@
 //! The errors that the program `dunkelva` prints, and hints at what is wrong with its files.
 #![tactic(auto)]
 
-/// Makes the error with a message.
+/// Creates an error whose message is formatted as by `format!`.
 #[macro_export]
 macro_rules! trouble {
     ($($message:tt)+) => {

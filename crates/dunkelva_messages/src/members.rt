@@ -1,4 +1,4 @@
-//! The names in a document that lacks a key, for hints.
+//! Hints with the names in a document that lacks a part of the key.
 
 use crate::error::Result;
 use crate::lines::line_bytes;
@@ -7,7 +7,7 @@ use crate::near::{are_near, differ_by_case};
 use json::{Scratch, Value};
 use std::alloc::Global;
 
-/// Returns the names of the first members of a document, and how many more there are.
+/// Returns the names of the first members of a document, and the number of the remaining ones.
 fn list_of(alloc: Global, members: &[(&str, Value<'_>)]) -> Result<String> {
     let mut list = String::new(alloc);
     for (i, (name, _)) in members.iter().take(MOST_NAMES).enumerate() {
@@ -17,7 +17,8 @@ fn list_of(alloc: Global, members: &[(&str, Value<'_>)]) -> Result<String> {
     Ok(list)
 }
 
-/// Returns how far a name is from another one, if they are nearly the same.
+/// Returns how much two names differ: 0 if they are equal, 1 if they differ only by case, 2 if they
+/// are similar, and `None` otherwise.
 fn distance(one: &str, other: &str) -> Option<u8> {
     if one == other {
         Some(0)
@@ -30,7 +31,8 @@ fn distance(one: &str, other: &str) -> Option<u8> {
     }
 }
 
-/// Returns the place of the first member whose name is the nearest to this one, if one is near.
+/// Returns the index of the member whose name is most similar to `wanted`, or `None` if no name is
+/// similar. The first of several wins.
 fn nearest(members: &[(&str, Value<'_>)], wanted: &str) -> Option<usize> {
     let mut least = u8::MAX;
     let mut found = None;
@@ -45,7 +47,7 @@ fn nearest(members: &[(&str, Value<'_>)], wanted: &str) -> Option<usize> {
     found
 }
 
-/// Returns whether a name stands in a path without quotes.
+/// Returns whether a name needs no quotes in a path.
 fn is_plain(name: &str) -> bool {
     !name.is_empty()
         && name
@@ -53,7 +55,8 @@ fn is_plain(name: &str) -> bool {
             .all(|c| c.is_ascii_alphanumeric() || c == '_' || c == '-')
 }
 
-/// Returns the member of a value whose name is the nearest to this one, if one is near.
+/// Returns the member of an object whose name is most similar to `name`, or `None` if there is none
+/// or the value is not an object.
 fn member_near<'v, 'a>(value: &'v Value<'a>, name: &str) -> Option<&'v (&'a str, Value<'a>)> {
     let Value::Object(members) = value else {
         return None;
@@ -61,8 +64,8 @@ fn member_near<'v, 'a>(value: &'v Value<'a>, name: &str) -> Option<&'v (&'a str,
     members.get(nearest(members, name)?)
 }
 
-/// Appends the path of a part of a value whose names are nearly these. Returns `None` if there is
-/// none, or a name needs quotes.
+/// Appends to `near` the path that leads into `value` along names similar to `names`. Returns
+/// `None` if there is no such path, or if a name needs quotes.
 fn push_near(names: &[&str], value: &Value<'_>, near: &mut String) -> Option<()> {
     let Some((name, rest)) = names.split_first() else {
         return Some(());
@@ -76,8 +79,8 @@ fn push_near(names: &[&str], value: &Value<'_>, near: &mut String) -> Option<()>
     push_near(rest, inner, near)
 }
 
-/// Returns the path of a part of a document that is nearly this path, if there is one. Paths with
-/// quotes or places are left out.
+/// Returns the path of a part of a document that is similar to `path`, or `None` if there is none.
+/// Paths with quotes or indices give `None`.
 fn path_near(alloc: Global, document: &Value<'_>, path: &str) -> Option<String> {
     let mut names = Vec::new(alloc);
     for name in path.strip_prefix('.').unwrap_or(path).split('.') {
@@ -88,8 +91,8 @@ fn path_near(alloc: Global, document: &Value<'_>, path: &str) -> Option<String> 
     Some(near)
 }
 
-/// Returns what is known of a path that leads nowhere in a document: a question, if another one is
-/// near, and the names of its members.
+/// Returns a hint about a path that leads to no part of a document: the names of its members, and a
+/// question if a similar path exists. Returns `None` if the document is not an object with members.
 fn hint_in(alloc: Global, document: &Value<'_>, path: &str) -> Option<String> {
     let Value::Object(members) = document else {
         return None;
@@ -107,7 +110,8 @@ fn hint_in(alloc: Global, document: &Value<'_>, path: &str) -> Option<String> {
     }
 }
 
-/// Returns a hint at a path that leads nowhere in the document in a line of an ordinary file.
+/// Returns a hint about a path that leads to no part of the document in a line of a regular file.
+/// The first line is 1. Returns `None` if the line can't be read again, or there is no hint.
 pub fn members_hint(rt: &HostRuntime, file: &str, line: u64, path: &str) -> Option<String> {
     let bytes = line_bytes(rt, file, line)?;
     let text = str::from_utf8(&bytes).ok()?;

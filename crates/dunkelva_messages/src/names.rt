@@ -5,16 +5,16 @@ use std::alloc::Global;
 use std::fmt;
 use std::fmt::{Display, Formatter};
 
-/// The most names in a message.
+/// The greatest number of names in a list.
 pub const MOST_NAMES: usize = 12;
 
-/// The most bytes of a name in a list. A longer one is cut.
+/// The greatest length of a name in a list, in bytes. A longer name is cut.
 const MOST_BYTES: usize = 60;
 
-/// The most bytes of a name that a message is about. A longer one is cut.
+/// The greatest length of a single name in a message, in bytes. A longer name is cut.
 const MOST_OF_ONE: usize = 200;
 
-/// A name in quotes, or the beginning of a long one.
+/// A name that is displayed in quotes. If the name was cut, two dots follow.
 #[derive(Clone, Copy)]
 pub struct QuotedName<'a> {
     start: &'a str,
@@ -22,7 +22,7 @@ pub struct QuotedName<'a> {
 }
 
 impl<'a> QuotedName<'a> {
-    /// Cuts a name after this number of bytes. No character is split.
+    /// Cuts a name after at most `most` bytes. No character is split.
     fn cut(name: &'a str, most: usize) -> QuotedName<'a> {
         let start = name.get(..name.floor_char_boundary(most)).unwrap_or("");
         QuotedName {
@@ -39,12 +39,13 @@ impl Display for QuotedName<'_> {
     }
 }
 
-/// Returns a name that a message is about, in quotes.
+/// Returns a name to be displayed in quotes. It is cut if it has more than 200 bytes.
 pub fn quoted(name: &str) -> QuotedName<'_> {
     QuotedName::cut(name, MOST_OF_ONE)
 }
 
-/// Appends a name, cut if it is long, with a comma before it unless it is the first one.
+/// Appends a name in quotes to a list, after a comma unless it is the first one. A long name is
+/// cut, and a name that is not UTF-8 is described.
 pub fn push_name(text: &mut String, alloc: Global, name: &[u8], is_first: bool) -> Result<()> {
     let comma = if is_first { "" } else { ", " };
     text.push_str(comma)?;
@@ -57,7 +58,7 @@ pub fn push_name(text: &mut String, alloc: Global, name: &[u8], is_first: bool) 
     Ok(())
 }
 
-/// Appends how many more names there are, if there are some.
+/// Appends the number of names that a list leaves out, unless it is 0.
 pub fn push_more(text: &mut String, alloc: Global, more: usize) -> Result<()> {
     if more > 0 {
         text.push_str(&format!(in alloc; " and {more} more")?)?;

@@ -1,12 +1,12 @@
-//! Names that are nearly the same, for questions about misspelt ones.
+//! Similarity of names, for hints about misspelt ones.
 
-/// The most bytes in which two names that are nearly the same differ, at one place.
+/// The most bytes by which similar names differ. All of them are adjacent.
 const MOST_OTHER: usize = 2;
 
-/// The least bytes that two names that are nearly the same have in common.
+/// The fewest bytes that similar names have in common.
 const LEAST_COMMON: usize = 2;
 
-/// Returns a byte without its case. Hyphens and underscores are the same.
+/// Returns a byte in lower case. An underscore becomes a hyphen.
 fn folded(byte: u8) -> u8 {
     match byte {
         b'_' => b'-',
@@ -14,7 +14,8 @@ fn folded(byte: u8) -> u8 {
     }
 }
 
-/// Returns whether two bytes are there and are the same, their case aside.
+/// Returns whether two bytes exist, and are equal apart from their case. Hyphens and underscores
+/// are equal.
 fn are_alike(one: Option<&u8>, other: Option<&u8>) -> bool {
     match (one, other) {
         (Some(one), Some(other)) => folded(*one) == folded(*other),
@@ -22,7 +23,7 @@ fn are_alike(one: Option<&u8>, other: Option<&u8>) -> bool {
     }
 }
 
-/// Returns the number of bytes that two names have in common at their beginnings.
+/// Returns the number of equal bytes at the beginnings of two names. Case does not count.
 fn common_start(one: &[u8], other: &[u8]) -> usize {
     let most = one.len().min(other.len());
     for i in 0..most {
@@ -33,13 +34,14 @@ fn common_start(one: &[u8], other: &[u8]) -> usize {
     most
 }
 
-/// Returns the byte at a place that is counted from the end on.
+/// Returns the byte at an index counted from the end, where 0 is the last byte, or `None` if there
+/// is none.
 fn from_end(name: &[u8], place: usize) -> Option<&u8> {
     name.get(name.len().checked_sub(place.saturating_add(1))?)
 }
 
-/// Returns the number of bytes that two names have in common at their ends, or `most` if there are
-/// more.
+/// Returns the number of equal bytes at the ends of two names, but at most `most`. Case does not
+/// count.
 fn common_end(one: &[u8], other: &[u8], most: usize) -> usize {
     for i in 0..most {
         if !are_alike(from_end(one, i), from_end(other, i)) {
@@ -49,12 +51,13 @@ fn common_end(one: &[u8], other: &[u8], most: usize) -> usize {
     most
 }
 
-/// Returns whether two names differ by case alone, hyphens and underscores taken as the same.
+/// Returns whether two names are equal apart from their case. Hyphens and underscores are equal.
 pub fn differ_by_case(one: &[u8], other: &[u8]) -> bool {
     one.len() == other.len() && common_start(one, other) == one.len()
 }
 
-/// Returns whether two names differ in a few bytes at one place.
+/// Returns whether two names are similar: they differ only in up to two adjacent bytes, and have at
+/// least two bytes in common. Case does not count.
 pub fn are_near(one: &[u8], other: &[u8]) -> bool {
     let start = common_start(one, other);
     let most = one.len().min(other.len()).saturating_sub(start);

@@ -1,10 +1,10 @@
-//! Usual slips in lines that should be JSON.
+//! Common mistakes in lines that should be JSON.
 
 use crate::lines::BLANKS;
 use json::{Scratch, Value};
 use std::alloc::Global;
 
-/// What other formats have where JSON has a value, each with its hint.
+/// Beginnings of values in other formats, each with the hint for it.
 const STARTS: [(&str, &str); 11] = [
     ("NaN", "JSON has no NaN"),
     ("Infinity", "JSON has no Infinity"),
@@ -19,7 +19,8 @@ const STARTS: [(&str, &str); 11] = [
     ("/*", "JSON has no comments"),
 ];
 
-/// Returns the hint at what a text begins with, if other formats have that where JSON has a value.
+/// Returns the hint for a text that begins with a value of another format, or `None` if it does
+/// not.
 fn start_hint(rest: &str) -> Option<&'static str> {
     for (start, hint) in STARTS {
         if rest.starts_with(start) {
@@ -29,7 +30,8 @@ fn start_hint(rest: &str) -> Option<&'static str> {
     None
 }
 
-/// Returns whether a text begins with a name that lacks its quotes. `before` stands before it.
+/// Returns whether a text begins with a member name that has no quotes. `before` is the text before
+/// it in the line.
 fn lacks_quotes(before: &str, rest: &str) -> bool {
     let behind = rest.trim_start_matches(|c: char| c.is_ascii_alphanumeric() || c == '_');
     let is_first = before.ends_with('{') || before.ends_with(',');
@@ -37,7 +39,7 @@ fn lacks_quotes(before: &str, rest: &str) -> bool {
     is_first && is_name && behind.len() < rest.len()
 }
 
-/// Returns whether a text begins with a string that does not end.
+/// Returns whether a text begins with a string that has no closing quote.
 fn never_ends(rest: &str) -> bool {
     let Some(inside) = rest.strip_prefix('"') else {
         return false;
@@ -52,7 +54,7 @@ fn never_ends(rest: &str) -> bool {
     true
 }
 
-/// Returns whether a text is a document.
+/// Returns whether a text is a JSON object.
 fn is_document(alloc: Global, text: &str) -> bool {
     if !text.ends_with('}') {
         return false;
@@ -64,7 +66,8 @@ fn is_document(alloc: Global, text: &str) -> bool {
     }
 }
 
-/// Returns a hint at a slip between these parts of a line that is no document.
+/// Returns a hint about a mistake in a line that is not a document, or `None` if none is known. The
+/// fault is between `before` and `rest`.
 fn slip_between(alloc: Global, before: &str, rest: &str) -> Option<&'static str> {
     if lacks_quotes(before, rest) {
         return Some("a name stands in double quotes");
@@ -84,7 +87,8 @@ fn slip_between(alloc: Global, before: &str, rest: &str) -> Option<&'static str>
     start_hint(rest)
 }
 
-/// Returns a hint at a slip at a column of a line that is no document, the first column being 1.
+/// Returns a hint about a mistake at a column of a line that is not a document, or `None` if none
+/// is known. The first column is 1.
 pub(crate) fn slip_at(alloc: Global, text: &str, column: u64) -> Option<&'static str> {
     let mut chars = text.chars();
     for _ in 1..column {
