@@ -1,23 +1,23 @@
-//! Errors of the program.
+//! The errors of the program.
 
 use polars_arrays_bits::error::{ArrayError, ComputeError};
 use std::alloc::{AllocError, AllocFailed};
 use std::io;
 use thiserror::Error;
 
-/// The reason why there is no result.
+/// The reason why the program fails.
 #[derive(Debug, Drop, Error)]
 pub enum Fault {
-    /// The parts of an array do not match.
+    /// The parts of an array do not fit together.
     #[error("no array: {0}")]
     Parts(ArrayError),
-    /// The columns differ in type or length.
+    /// The two columns differ in type or in length.
     #[error("columns of two types or lengths")]
     Columns,
     /// An allocation failed.
     #[error("out of memory")]
     Memory,
-    /// The result could not be written.
+    /// The output could not be written.
     #[error("the answer could not be written")]
     Output,
 }

@@ -1,9 +1,9 @@
-//! First steps: builds two columns of numbers, and two of orders, from parts, and compares them row
-//! by row.
+//! First steps: compares two columns of numbers, and two columns of orders, row by row. The columns
+//! are built from their parts.
 //!
 //! An order is a struct. Its items are a list of numbers, and its city is an entry of a dictionary.
-//! The second column stores the same orders differently: other numbers lie under the null list, and
-//! its dictionary has the cities in another order.
+//! The second column of orders stores the same orders in another way: other numbers lie under the
+//! null list, and the dictionary has its cities in another order. One item differs.
 #![tactic(auto)]
 
 ghost use Rattle.std.specs.List.{All};
@@ -33,20 +33,21 @@ mod fault;
 /// The parts of a column of orders.
 #[derive(Clone, Copy)]
 struct Parts<'a> {
-    /// Order `i` has the items from offset `i` up to offset `i + 1`.
+    /// The offsets of the lists of items. Order `i` has the items from `offsets[i]` up to
+    /// `offsets[i + 1]`.
     offsets: &'a [i32],
     items: &'a [i32],
-    /// Flags of the orders: true for an order with a list of items; the list of any other order is
-    /// null.
+    /// `false` for each order whose list of items is null.
     present: &'a [bool],
-    /// Index of each order's city.
+    /// The index of each order's city.
     keys: &'a [u8],
-    /// City `k` has the bytes from end `k` up to end `k + 1`.
+    /// The offsets of the cities. City `k` is the bytes of `cities` from `ends[k]` up to `ends[k +
+    /// 1]`.
     ends: &'a [i32],
     cities: &'a str,
 }
 
-/// Creates the items of all orders.
+/// Creates the array of the items of all orders.
 fn items(alloc: Global, parts: &Parts) -> Result<Box<AnyArray>, Fault>
     ensures { IfOk result (λ array. IsGood array.value) }
 {
@@ -54,7 +55,7 @@ fn items(alloc: Global, parts: &Parts) -> Result<Box<AnyArray>, Fault>
     Ok(Box::new(alloc, AnyArray::Int32(items))?)
 }
 
-/// Creates the lists of items.
+/// Creates the array of lists of items.
 fn lists(alloc: Global, parts: &Parts) -> Result<AnyArray, Fault>
     ensures { IfOk result (λ array. IsGood array) }
 {
@@ -66,7 +67,7 @@ fn lists(alloc: Global, parts: &Parts) -> Result<AnyArray, Fault>
     Ok(AnyArray::List(array))
 }
 
-/// Creates the cities.
+/// Creates the array of cities.
 fn cities(alloc: Global, parts: &Parts) -> Result<Box<AnyArray>, Fault>
     ensures { IfOk result (λ array. IsGood array.value) }
 {
@@ -76,7 +77,7 @@ fn cities(alloc: Global, parts: &Parts) -> Result<Box<AnyArray>, Fault>
     Ok(Box::new(alloc, AnyArray::Utf8(array))?)
 }
 
-/// Creates the city of each order, as keys into the cities.
+/// Creates the dictionary array that has the city of each order.
 fn named_cities(alloc: Global, parts: &Parts) -> Result<AnyArray, Fault>
     ensures { IfOk result (λ array. IsGood array) }
 {
@@ -93,7 +94,8 @@ fn field(alloc: Global, name: &str, dtype: ArrowDataType) -> Result<Field, Fault
     Ok(Field { name, dtype })
 }
 
-/// Creates the fields of an order: a list of numbers, and a text by an 8-bit key.
+/// Creates the fields of an order: `items`, a list of `Int32`, and `city`, a dictionary of texts
+/// with `UInt8` keys.
 fn fields(alloc: Global) -> Result<Vec<Field>, Fault> {
     let mut fields = Vec::new(alloc);
     let items = ArrowDataType::List(Box::new(alloc, ArrowDataType::Int32)?);
@@ -104,7 +106,7 @@ fn fields(alloc: Global) -> Result<Vec<Field>, Fault> {
     Ok(fields)
 }
 
-/// Creates the two columns of the orders' fields.
+/// Creates the two child arrays of the orders.
 fn columns(alloc: Global, parts: &Parts) -> Result<Vec<AnyArray>, Fault>
     ensures { IfOk result (λ columns. All IsGood columns.items) }
 {
@@ -114,7 +116,7 @@ fn columns(alloc: Global, parts: &Parts) -> Result<Vec<AnyArray>, Fault>
     Ok(columns)
 }
 
-/// Creates the column of orders.
+/// Creates the struct array of the orders.
 fn orders(alloc: Global, parts: &Parts) -> Result<Box<AnyArray>, Fault>
     ensures { IfOk result (λ array. IsGood array.value) }
 {
@@ -124,7 +126,8 @@ fn orders(alloc: Global, parts: &Parts) -> Result<Box<AnyArray>, Fault>
     Ok(Box::new(alloc, AnyArray::Struct(array))?)
 }
 
-/// Compares two columns row by row, and prints the result.
+/// Compares two columns row by row, and prints the result for each row. Null is equal to null
+/// alone. Fails with `Columns` if the columns differ in type or in length.
 fn print_same(
     rt: &(impl Print + AllocGlobal),
     left: &AnyArray,
@@ -141,7 +144,7 @@ fn print_same(
     print_rows(rt, &same, steps.seen())
 }
 
-/// Prints for each row whether it is the same, and then the number of comparisons.
+/// Prints for each row whether the two rows are equal, and then the number of comparisons.
 fn print_rows(rt: &impl Print, same: &Bitmap, comparisons: u64) -> Result<(), Fault> {
     for i in 0..same.len() {
         let told = if same.get_bit(i) {
@@ -155,14 +158,16 @@ fn print_rows(rt: &impl Print, same: &Bitmap, comparisons: u64) -> Result<(), Fa
     Ok(())
 }
 
-/// Creates a column of numbers. A row is null if `present` is false.
+/// Creates a column of numbers. Row `i` is null if `present[i]` is false. Fails with `Parts` if the
+/// slices have different lengths.
 fn numbers(alloc: Global, values: &[i32], present: &[bool]) -> Result<PrimitiveArray<i32>, Fault> {
     let values = Buffer::from_vec(Vec::from_slice(alloc, values)?);
     let validity = Bitmap::from_bools(alloc, present)?;
     Ok(PrimitiveArray::try_new(values, Some(validity))?)
 }
 
-/// Compares two columns of numbers row by row, null equal to null.
+/// Compares two columns of numbers row by row, and prints the result for each row. Null is equal to
+/// null alone.
 fn compare_numbers(rt: &(impl Print + AllocGlobal)) -> Result<(), Fault> {
     let alloc = rt.alloc();
     let left = numbers(alloc, &[1, 2, 3], &[true, true, false])?;
@@ -177,7 +182,7 @@ fn compare_numbers(rt: &(impl Print + AllocGlobal)) -> Result<(), Fault> {
     Ok(())
 }
 
-/// Three orders, the second without a list of items.
+/// Three orders. The second one has null instead of a list of items.
 const FIRST: Parts<'static> = Parts {
     offsets: &[0, 2, 2, 3],
     items: &[1, 2, 7],
@@ -187,7 +192,7 @@ const FIRST: Parts<'static> = Parts {
     cities: "OsloBergen",
 };
 
-/// Orders that equal the first ones except for the last item, stored differently.
+/// Orders that are equal to `FIRST` except for the last item. They are stored in another way.
 const SECOND: Parts<'static> = Parts {
     offsets: &[0, 2, 4, 5],
     items: &[1, 2, 9, 9, 8],
@@ -197,7 +202,7 @@ const SECOND: Parts<'static> = Parts {
     cities: "BergenOslo",
 };
 
-/// Compares two columns of orders.
+/// Compares `FIRST` and `SECOND`, and prints the result for each row.
 fn compare_orders(rt: &(impl Print + AllocGlobal)) -> Result<(), Fault> {
     let left = orders(rt.alloc(), &FIRST)?;
     let right = orders(rt.alloc(), &SECOND)?;
