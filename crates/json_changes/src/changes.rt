@@ -1,4 +1,4 @@
-//! The changes from one value to another.
+//! The differences between two JSON values.
 
 ghost use Rattle.std.specs.Prelude.{◌≡◌, ◌↔◌, [], IfErr, IfOk, IsTrue, map};
 ghost use Rattle.json.specs.Strict.{HasUniqueKeys};
@@ -15,10 +15,11 @@ use json::Value;
 use json_decimals::error::NumberError;
 use std::alloc::Global;
 
-/// Returns the texts of the differences that are reported under rules between two values.
+/// Returns the differences between two values that are reported under `rules`, as text.
 ///
-/// Fails with `WideExponent` only if the exponent of a number has more than 30 digits, leading
-/// zeros not counted. Numbers are compared even if their difference is not reported.
+/// Fails with `WideExponent` only if the exponent of a number has more than 30 digits, not counting
+/// leading zeros. That may be a number whose difference is not reported. Fails with `Memory` if an
+/// allocation fails.
 pub fn changes_under(
     alloc: Global,
     left: &Value<'_>,
@@ -39,10 +40,10 @@ pub fn changes_under(
     Ok(changes)
 }
 
-/// Returns whether no difference is reported under rules between two values.
+/// Returns whether no difference between two values is reported under `rules`.
 ///
-/// Fails with `WideExponent` only if the exponent of a number has more than 30 digits, leading
-/// zeros not counted.
+/// Fails with `WideExponent` only if the exponent of a number has more than 30 digits, not counting
+/// leading zeros. Fails with `Memory` if an allocation fails.
 pub fn are_same_under(
     alloc: Global,
     left: &Value<'_>,

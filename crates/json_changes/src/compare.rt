@@ -1,4 +1,4 @@
-//! Comparing two values, part by part.
+//! The comparison of two JSON values, part by part.
 
 ghost use Rattle.std.specs.Prelude.{◌≡◌, ◌++◌, IfErr, IfSome, MatchOption, OnOk, drop, map};
 ghost use Rattle.json.specs.Json.{array, object};
@@ -21,7 +21,8 @@ use json_decimals::error::NumberError;
 use json_paths::path::Step;
 use std::alloc::{AllocError, Global};
 
-/// Appends the changes of the items from a place on, which only one side has.
+/// Appends a change for each item of an array from index `from` on, which only the array on `side`
+/// has. `trail` is the path of the array. A change that the rules don't report is left out.
 fn push_items(
     alloc: Global,
     rules: &Rules,
@@ -47,7 +48,8 @@ fn push_items(
     Ok(())
 }
 
-/// Appends the change of a member of the right side, if none was found for it on the left side.
+/// Appends the change of `added`, a member of the right object, if the left object has no member of
+/// the name, that is, if `found` is `None`.
 fn push_added_member(
     alloc: Global,
     rules: &Rules,
@@ -74,7 +76,8 @@ fn push_added_member(
     Ok(())
 }
 
-/// Appends the changes of the members of the right side whose names the left side does not have.
+/// Appends the changes of the members that only the right object `other` has. `own` are the members
+/// of the left object.
 fn push_added_members<'a, 'b>(
     alloc: Global,
     rules: &Rules,
@@ -97,9 +100,10 @@ fn push_added_members<'a, 'b>(
     Ok(())
 }
 
-/// Appends the changes between two values at a path.
+/// Appends the changes between two values at the path `trail`. Arrays are compared item by item,
+/// and objects member by member. Afterwards `trail` is unchanged.
 ///
-/// A failure leaves some of the changes appended, and a longer path.
+/// If this fails, some changes may be appended already, and `trail` may be longer.
 #[cycle(compare)]
 pub(crate) fn compare<'a, 'b>(
     alloc: Global,
@@ -127,7 +131,8 @@ pub(crate) fn compare<'a, 'b>(
     compare_leaves(alloc, rules, trail, changes, left, right)
 }
 
-/// Appends the changes between the items of two arrays.
+/// Appends the changes between the items of two arrays at the path `trail`. Items with the same
+/// index are compared.
 #[cycle(compare)]
 fn compare_items<'a, 'b>(
     alloc: Global,
@@ -159,8 +164,8 @@ fn compare_items<'a, 'b>(
     Ok(())
 }
 
-/// Appends the changes between a value and the one that was found for it. If none was found,
-/// appends the change of the value alone.
+/// Appends the changes between a member's value and the value `found` in the other object. If there
+/// is none, appends the change of a part that only the left side has.
 #[cycle(compare)]
 fn compare_found<'a, 'b>(
     alloc: Global,
@@ -190,7 +195,8 @@ fn compare_found<'a, 'b>(
     }
 }
 
-/// Appends the changes between the members of two objects.
+/// Appends the changes between the members of two objects at the path `trail`. Members with the
+/// same name are compared.
 #[cycle(compare)]
 fn compare_members<'a, 'b>(
     alloc: Global,

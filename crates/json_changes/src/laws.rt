@@ -1,13 +1,14 @@
-//! Laws of differences.
+//! Laws of differences and of rules.
 
 ghost use Rattle.json_changes.specs.Laws.{AllToldWithoutRules, EachIsReal, EachIsSmallest};
 ghost use Rattle.json_changes.specs.Laws.{NoneIsMissed, NoneWhereSame, NothingToldWhereSame};
 ghost use Rattle.json_changes.specs.Laws.{OnlyNumbersTolerated, PathsLead, PathsPart};
 ghost use Rattle.json_changes.specs.Laws.{ToldAreDifferences, TolerancesAddNone};
 
-/// Says that only values that differ have differences, and that the path of a difference leads to
-/// its parts. Says that these parts differ and are the smallest such parts, and that no difference
-/// is missed or reported twice.
+/// States the laws of differences. There is none if and only if two values are equal. The path of a
+/// difference leads to its part in each value. The two parts are not equal, and are neither two
+/// arrays nor two objects. If the parts at a path are not equal, there is a difference at the path,
+/// above it or below it. No path of a difference begins with the path of another difference.
 pub fn change_laws()
     ensures none_where_same { NoneWhereSame }
     ensures paths_lead { PathsLead }
@@ -17,9 +18,9 @@ pub fn change_laws()
     ensures paths_part { PathsPart }
 {}
 
-/// Says that each difference is reported if there are no rules, and that rules add none. Says that
-/// nothing is reported where two values are the same, and that tolerances add no difference and
-/// remove only differences between numbers.
+/// States the laws of rules. Without rules every difference is reported. Under rules only
+/// differences are reported, and none if the two values are equal. Tolerances allow only
+/// differences between two numbers, and never add a difference to a report.
 pub fn rule_laws()
     ensures all_told { AllToldWithoutRules }
     ensures told_are_differences { ToldAreDifferences }

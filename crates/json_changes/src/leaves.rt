@@ -1,4 +1,4 @@
-//! Comparing two values that have no parts to compare.
+//! The comparison of two values that are not both arrays or both objects.
 
 ghost use Rattle.std.specs.Prelude.{◌≡◌, ◌++◌, false, IfErr, IfOk, OnOk, map};
 ghost use Rattle.std.specs.Str.{bytes_eq};
@@ -19,7 +19,8 @@ use json_decimals::numbers::push_normal_number;
 use json_paths::path::Step;
 use std::alloc::Global;
 
-/// Returns whether two texts write the same number.
+/// Returns whether two texts are the same number, such as `1.5` and `1.50`. Fails with
+/// `WideExponent` if an exponent has more than 30 digits, unless the texts are equal.
 fn are_same_numbers(alloc: Global, left: &str, right: &str) -> Result<bool, NumberError>
     ensures same { IfOk result
         (λ b. b ≡ bytes_eq (normal_number left.now) (normal_number right.now)) }
@@ -37,7 +38,7 @@ fn are_same_numbers(alloc: Global, left: &str, right: &str) -> Result<bool, Numb
     Ok(first.as_slice() == second.as_slice())
 }
 
-/// Returns whether two values with no parts are the same.
+/// Returns whether two values are equal. An array or object is not equal to any value here.
 fn are_same(alloc: Global, left: &Value<'_>, right: &Value<'_>) -> Result<bool, NumberError>
     ensures same { IfOk result
         (λ b. b ≡ is_same_leaf (value_view left.now) (value_view right.now)) }
@@ -54,7 +55,8 @@ fn are_same(alloc: Global, left: &Value<'_>, right: &Value<'_>) -> Result<bool, 
     }
 }
 
-/// Appends the change between two values, if they are not the same and it is reported.
+/// Appends the change between two values at the path `trail`, unless they are equal or the rules
+/// don't report it.
 pub(crate) fn compare_leaves(
     alloc: Global,
     rules: &Rules,

@@ -1,4 +1,4 @@
-//! The parts of values.
+//! Access to the items and members of values.
 
 ghost use Rattle.std.specs.Option.{option_map};
 ghost use Rattle.std.specs.Prelude.{◌≡◌, MatchOption, None};
@@ -32,7 +32,7 @@ pub(crate) fn members_of<'v, 'a>(value: &'v Value<'a>) -> Option<&'v Vec<(&'a st
     }
 }
 
-/// Returns the value of the member with this name, if there is one.
+/// Returns the value of the last member with this name, or `None` if there is none.
 pub(crate) fn find_member<'v, 'a>(
     members: &'v Vec<(&'a str, Value<'a>)>,
     name: &str,

@@ -1,4 +1,4 @@
-//! Looking up many members by their names.
+//! Lookup of many members by name.
 
 ghost use Rattle.std.specs.Prelude.{◌≡◌, ◌<◌, IfOk, length, map};
 ghost use Rattle.json.specs.Find.{get_member};
@@ -10,10 +10,11 @@ use json::Value;
 use std::alloc::{AllocError, Global};
 use std::collections::BTreeMap;
 
-/// The greatest number of members that are looked through one by one.
+/// The greatest number of members that are searched one by one.
 const FEW: usize = 16;
 
-/// Returns the values of members by their names, or an empty map if the members are few.
+/// Returns a map from the names of members to their values. The map is empty if there are at most
+/// `FEW` members.
 fn by_name<'v, 'a>(
     alloc: Global,
     members: &'v Vec<(&'a str, Value<'a>)>,
@@ -32,15 +33,15 @@ fn by_name<'v, 'a>(
     Ok(names)
 }
 
-/// Returns the value at a name, if there is one.
+/// Returns the value of a name in a map, or `None` if there is none.
 fn look_up<'v, 'a>(names: &BTreeMap<&'a str, &'v Value<'a>>, name: &str) -> Option<&'v Value<'a>>
     ensures { result ≡ at_name names.now name.now }
 {
     names.get(name).copied()
 }
 
-/// Returns the value of the member with this name, if there is one. `names` is used where the
-/// members are many.
+/// Returns the value of the member with this name, or `None` if there is none. `names` is the map
+/// that `by_name` returns for the members.
 fn find_in<'v, 'a>(
     members: &'v Vec<(&'a str, Value<'a>)>,
     names: &BTreeMap<&'a str, &'v Value<'a>>,
@@ -57,7 +58,8 @@ fn find_in<'v, 'a>(
     }
 }
 
-/// Returns for each of some members the value that other members have at its name, if there is one.
+/// Returns, for each of `members`, the value of the member of `among` that has its name, or `None`
+/// if there is none.
 pub(crate) fn find_all<'v, 'a, 'b>(
     alloc: Global,
     members: &Vec<(&'a str, Value<'a>)>,

@@ -1,4 +1,4 @@
-//! Changes, and the texts of the parts that they name.
+//! The changes that are reported, as text.
 
 ghost use Rattle.std.specs.Option.{option_map};
 ghost use Rattle.std.specs.Prelude.{◌≡◌, ◌++◌, ◌∷◌, [], IfOk, IfSome, OnOk, map};
@@ -15,14 +15,14 @@ use json::{Value, to_vec};
 use json_paths::path::Step;
 use std::alloc::{AllocError, Global};
 
-/// A difference between two values, in texts.
+/// A difference between two values, as text.
 #[derive(Drop)]
 pub struct Change {
-    /// The path to the parts that differ.
+    /// The path of the part that differs, such as `items[0].price`.
     pub path: Vec<u8>,
-    /// The part of the left value, as JSON, where it has one.
+    /// The part in the left value as JSON, or `None` if it is missing.
     pub left: Option<Vec<u8>>,
-    /// The part of the right value, as JSON, where it has one.
+    /// The part in the right value as JSON, or `None` if it is missing.
     pub right: Option<Vec<u8>>,
 }
 
@@ -33,7 +33,7 @@ pub(crate) enum Side {
     Right,
 }
 
-/// Returns the text of a part, where there is one.
+/// Returns the text of a part as JSON, or `None` for `None`.
 fn text_of(alloc: Global, part: Option<&Value<'_>>) -> Result<Option<Vec<u8>>, AllocError>
     requires { IfSome part (λ v. HasNumbers (value_view v.now)) }
     ensures { IfOk result (λ text. option_map (λ v. v.items) text
@@ -45,7 +45,8 @@ fn text_of(alloc: Global, part: Option<&Value<'_>>) -> Result<Option<Vec<u8>>, A
     }
 }
 
-/// Appends the change between two parts at a path, if it is reported.
+/// Appends the change between two parts at the path `trail`, unless the rules don't report it. A
+/// part is `None` if it is missing.
 pub(crate) fn push_change(
     alloc: Global,
     rules: &Rules,
@@ -74,7 +75,8 @@ pub(crate) fn push_change(
     Ok(())
 }
 
-/// Appends the change of a part that only one side has, if it is reported.
+/// Appends the change of a part that only the value on `side` has, unless the rules don't report
+/// it.
 pub(crate) fn push_alone(
     alloc: Global,
     rules: &Rules,

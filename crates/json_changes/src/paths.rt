@@ -1,4 +1,4 @@
-//! The texts of paths.
+//! Paths as text.
 
 ghost use Rattle.std.specs.List.{list_all};
 ghost use Rattle.std.specs.Prelude.{◌≡◌, ◌++◌, IfOk, OnOk};
@@ -13,7 +13,8 @@ use json::{Value, to_vec};
 use json_paths::path::Step;
 use std::alloc::{AllocError, Global};
 
-/// Returns whether each byte needs no quotes.
+/// Returns whether all bytes can be in a name without quotes: letters and digits of ASCII, `_` and
+/// `-`.
 fn are_plain(bytes: &[u8]) -> bool
     ensures { result ≡ list_all is_plain_byte bytes.now }
 {
@@ -22,14 +23,14 @@ fn are_plain(bytes: &[u8]) -> bool
         .all(|b| b.is_ascii_alphanumeric() || *b == b'_' || *b == b'-')
 }
 
-/// Returns whether a name needs no quotes.
+/// Returns whether a name needs no quotes in a path.
 fn is_plain(name: &str) -> bool
     ensures { result ≡ is_plain name.now }
 {
     !name.is_empty() && are_plain(name.as_bytes())
 }
 
-/// Appends a name between quotes.
+/// Appends a name as a JSON string.
 fn push_quoted(alloc: Global, path: &mut Vec<u8>, name: &str) -> Result<(), AllocError>
     ensures { OnOk result (path.new.items ≡ path.old.items ++ quoted name.now) }
 {
@@ -39,7 +40,8 @@ fn push_quoted(alloc: Global, path: &mut Vec<u8>, name: &str) -> Result<(), Allo
     Ok(())
 }
 
-/// Appends the text of the step that leads to the member with this name.
+/// Appends the step to the member named `key`: `.key`, or `."a b"` if the name needs quotes. At the
+/// beginning of a path a name without quotes has no dot.
 fn push_name(alloc: Global, path: &mut Vec<u8>, key: &str) -> Result<(), AllocError>
     ensures { OnOk result (path.new.items ≡ with_step path.old.items (name key.now)) }
 {
@@ -54,7 +56,7 @@ fn push_name(alloc: Global, path: &mut Vec<u8>, key: &str) -> Result<(), AllocEr
     Ok(())
 }
 
-/// Appends the text of the step that leads to the item at this place.
+/// Appends the step to the item at index `i`, such as `[0]`.
 fn push_place(path: &mut Vec<u8>, i: usize) -> Result<(), AllocError>
     ensures { OnOk result (path.new.items ≡ with_step path.old.items (place i)) }
 {
@@ -65,7 +67,7 @@ fn push_place(path: &mut Vec<u8>, i: usize) -> Result<(), AllocError>
     Ok(())
 }
 
-/// Appends the text of a step.
+/// Appends a step of a path as text.
 fn push_step(alloc: Global, path: &mut Vec<u8>, step: &Step) -> Result<(), AllocError>
     ensures { OnOk result (path.new.items ≡ with_step path.old.items (step_view step.now)) }
 {
@@ -75,7 +77,7 @@ fn push_step(alloc: Global, path: &mut Vec<u8>, step: &Step) -> Result<(), Alloc
     }
 }
 
-/// Returns the text of a path.
+/// Returns a path as text, such as `items[0].price`.
 pub(crate) fn text_of_path(alloc: Global, trail: &[Step]) -> Result<Vec<u8>, AllocError>
     ensures { IfOk result (λ text. text.items ≡ path_text (trail_view trail.now)) }
 {

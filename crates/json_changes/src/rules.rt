@@ -1,4 +1,4 @@
-//! Rules that say which differences are reported.
+//! The rules that say which differences are reported.
 
 ghost use Rattle.std.specs.List.{list_any};
 ghost use Rattle.std.specs.Option.{option_map};
@@ -22,26 +22,27 @@ use std::alloc::Global;
 /// A pattern, and the margin within which the numbers that it names may differ.
 #[derive(Drop)]
 pub struct Tolerance {
-    /// The pattern, which names numbers or parts that contain them.
+    /// The pattern. It names numbers, or parts that contain numbers.
     pub pattern: Pattern,
     /// The margin within which the numbers may differ.
     pub margin: Margin,
 }
 
-/// Rules that say which differences between two values are reported.
+/// The rules that say which differences between two values are reported.
 #[derive(Drop)]
 pub struct Rules {
     /// The parts whose differences are never reported.
     pub ignored: Vec<Pattern>,
-    /// The parts whose differences alone are reported. An empty list leaves out no difference.
+    /// The only parts whose differences are reported. If the list is empty, this rule does not
+    /// apply.
     pub only: Vec<Pattern>,
-    /// `true` if a missing part is the same as null.
+    /// `true` if a missing part is equal to null.
     pub missing_is_null: bool,
-    /// The tolerances for numbers. A difference is allowed if one of them allows it.
+    /// The tolerances for numbers. A difference that one of them allows is not reported.
     pub tolerances: Vec<Tolerance>,
 }
 
-/// Returns whether a path leads to a part that one of some patterns names, or to a part within it.
+/// Returns whether one of the patterns names the part at a path, or a part around it.
 fn is_named(patterns: &[Pattern], path: &[Step]) -> bool
     ensures { result ≡ is_named (map pattern_view patterns.now) (trail_view path.now) }
 {
@@ -51,7 +52,7 @@ fn is_named(patterns: &[Pattern], path: &[Step]) -> bool
     pattern.begins(path) || is_named(rest, path)
 }
 
-/// Returns whether a path leads to a part around those that one of some patterns names.
+/// Returns whether one of the patterns names a part inside the part at a path. It need not exist.
 fn has_named(patterns: &[Pattern], path: &[Step]) -> bool
     ensures { result ≡ has_named (map pattern_view patterns.now) (trail_view path.now) }
 {
@@ -61,7 +62,8 @@ fn has_named(patterns: &[Pattern], path: &[Step]) -> bool
     pattern.goes_on_in(path) || has_named(rest, path)
 }
 
-/// Returns whether a path leads to a part that is asked for.
+/// Returns whether the patterns of `only` select the part at a path: they name it, a part around
+/// it, or a part inside it. An empty list selects all parts.
 fn is_asked_for(patterns: &[Pattern], path: &[Step]) -> bool
     ensures { result ≡ is_asked_for (map pattern_view patterns.now) (trail_view path.now) }
 {
@@ -78,7 +80,7 @@ fn is_nothing(part: Option<&Value<'_>>) -> bool
     matches!(part, None | Some(Value::Null))
 }
 
-/// Returns whether two numbers lie within a margin.
+/// Returns whether two numbers differ by at most a margin.
 fn is_within(margin: &Margin, left: &str, right: &str) -> bool
     requires left { ¬ HasWideExponent left.now }
     requires right { ¬ HasWideExponent right.now }
@@ -90,7 +92,7 @@ fn is_within(margin: &Margin, left: &str, right: &str) -> bool
     }
 }
 
-/// Returns whether two parts are numbers that lie within a margin.
+/// Returns whether two parts are numbers that differ by at most a margin.
 fn are_close(margin: &Margin, left: Option<&Value<'_>>, right: Option<&Value<'_>>) -> bool
     requires { PartsAreNarrow (option_map (λ v. value_view v.now) left)
         (option_map (λ v. value_view v.now) right) }
@@ -104,7 +106,7 @@ fn are_close(margin: &Margin, left: Option<&Value<'_>>, right: Option<&Value<'_>
 }
 
 impl Tolerance {
-    /// Returns whether this allows the difference between two parts at a path.
+    /// Returns whether the tolerance allows the difference between two parts at a path.
     fn allows(&self, path: &[Step], left: Option<&Value<'_>>, right: Option<&Value<'_>>) -> bool
         requires { PartsAreNarrow (option_map (λ v. value_view v.now) left)
             (option_map (λ v. value_view v.now) right) }
@@ -118,7 +120,7 @@ impl Tolerance {
     }
 }
 
-/// Returns whether one of some tolerances allows the difference between two parts at a path.
+/// Returns whether one of the tolerances allows the difference between two parts at a path.
 fn is_tolerated(
     tolerances: &[Tolerance],
     path: &[Step],
@@ -140,7 +142,7 @@ fn is_tolerated(
 }
 
 impl Rules {
-    /// Returns empty rules, under which each difference is reported.
+    /// Returns empty rules, under which every difference is reported.
     pub fn none(alloc: Global) -> Rules
         ensures { rules_view result ≡ no_rules }
     {
@@ -152,7 +154,7 @@ impl Rules {
         }
     }
 
-    /// Returns whether the difference between two parts at a path is reported.
+    /// Returns whether the rules report the difference between two parts at a path.
     pub(crate) fn tell(
         &self,
         path: &[Step],

@@ -1,4 +1,4 @@
-//! The steps to the parts that are compared.
+//! The path of the parts that are being compared.
 
 ghost use Rattle.std.specs.Prelude.{◌≡◌, ◌++◌, ◌∷◌, [], OnOk, length, take};
 ghost use Rattle.json_paths.specs.Paths.{name, place};
@@ -7,7 +7,7 @@ ghost use Rattle.json_changes.specs.Texts.{trail_view};
 use json_paths::path::Step;
 use std::alloc::{AllocError, Global};
 
-/// Appends the step that leads to the member with this name.
+/// Appends the step to the member named `key` to a path.
 pub(crate) fn push_member_step(
     alloc: Global,
     trail: &mut Vec<Step>,
@@ -22,7 +22,7 @@ pub(crate) fn push_member_step(
     Ok(())
 }
 
-/// Appends the step that leads to the item at this place.
+/// Appends the step to the item at index `i` to a path.
 pub(crate) fn push_item_step(trail: &mut Vec<Step>, i: usize) -> Result<(), AllocError>
     ensures path { OnOk result
         (trail_view trail.new.items ≡ trail_view trail.old.items ++ place i ∷ []) }
