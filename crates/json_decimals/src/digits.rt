@@ -1,4 +1,4 @@
-//! The digits of a numeral, on both sides of its point.
+//! The digits of a number's text, before and after its point.
 
 ghost use Rattle.std.specs.Prelude.{◌≡◌, ◌<◌, ◌≤◌, ◌++◌, length, slice_index, slice_range, OnOk};
 ghost use Rattle.json_decimals.specs.Ranges.{IsEnd, IsStart};
@@ -7,7 +7,7 @@ use fast_float::Numeral;
 use std::alloc::AllocError;
 use std::marker::Model;
 
-/// The digits of a numeral: those before its point, and those after it.
+/// The digits of a number's text: those before its point, followed by those after it.
 #[derive(Drop)]
 pub(crate) struct Digits<'a> {
     whole: &'a [u8],
@@ -40,7 +40,7 @@ impl<'a> Digits<'a> {
         self.whole.len() + self.fraction.len()
     }
 
-    /// Returns the digit at a place.
+    /// Returns the digit at index `i`, as an ASCII byte.
     fn at(&self, i: usize) -> u8
         requires { i < length self.now }
         ensures { result ≡ slice_index self.now i }
@@ -52,7 +52,7 @@ impl<'a> Digits<'a> {
         }
     }
 
-    /// Returns the place of the first digit that is not 0, or the number of digits.
+    /// Returns the index of the first digit that is not 0, or the number of digits if all are 0.
     pub(crate) fn start(&self) -> usize
         ensures { IsStart self.now result }
     {
@@ -63,7 +63,7 @@ impl<'a> Digits<'a> {
         n
     }
 
-    /// Returns the place after the last digit that is not 0, or 0.
+    /// Returns the index after the last digit that is not 0, or 0 if all are 0.
     pub(crate) fn end(&self) -> usize
         ensures { IsEnd self.now result }
     {
@@ -74,7 +74,7 @@ impl<'a> Digits<'a> {
         n
     }
 
-    /// Appends the digits from one place to another.
+    /// Appends the digits from index `from` up to index `to`.
     pub(crate) fn push(&self, out: &mut Vec<u8>, from: usize, to: usize) -> Result<(), AllocError>
         requires ordered { from ≤ to }
         requires within { to ≤ length self.now }

@@ -5,13 +5,13 @@ ghost use Rattle.json_decimals.specs.Errors.{IsMemory};
 use std::alloc::{AllocError, AllocFailed};
 use thiserror::Error;
 
-/// The reason why a number is not written.
+/// The reason why the normal text of a number is not written.
 #[derive(Clone, Copy, Debug, Drop, Error, PartialEq, Eq)]
 pub enum NumberError {
     /// An allocation failed.
     #[error("out of memory")]
     Memory,
-    /// The exponent of a number has more than 30 digits, its leading zeros not counted.
+    /// The exponent of the number has more than 30 digits, not counting leading zeros.
     #[error("an exponent has more than 30 digits")]
     WideExponent,
 }

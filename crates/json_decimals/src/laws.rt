@@ -3,8 +3,10 @@
 ghost use Rattle.json_decimals.specs.Laws.{NormalFormsTell, NormalIsEqual, NormalTextsTell};
 ghost use Rattle.json_decimals.specs.Laws.{OneNormalForm, PassesOn, TextReadsBack};
 
-/// Says that each decimal has one normal form and one normal text, and that two decimals are equal
-/// if and only if these are the same.
+/// States that equality of decimals is transitive, that each decimal has exactly one equal normal
+/// form, and that the normal text of a decimal reads back as its normal form. Two decimals are
+/// equal if and only if they have the same normal form, and if and only if they have the same
+/// normal text.
 pub fn decimal_laws()
     ensures passes_on { PassesOn }
     ensures normal_is_equal { NormalIsEqual }

@@ -1,4 +1,4 @@
-//! Exact decimals, as the numbers of JSON write them, and one normal text of each.
+//! Exact decimals, read from the numbers of JSON, and the normal text of each decimal.
 #![tactic(auto)]
 
 mod digits;

@@ -11,7 +11,7 @@ use crate::tens::{Tens, push_tens, tens_of};
 use fast_float::Numeral;
 use std::alloc::AllocError;
 
-/// Returns whether a number's text begins with a minus.
+/// Returns whether the text of a number begins with a minus sign.
 pub fn is_negative(text: &[u8]) -> bool
     ensures { result ≡ is_negative text.now }
 {
@@ -21,7 +21,7 @@ pub fn is_negative(text: &[u8]) -> bool
     }
 }
 
-/// Returns the numeral of a number's text, which stands after its sign.
+/// Splits the text of a number, after its sign, into its digits and its exponent.
 pub fn numeral_of(text: &[u8]) -> Numeral<'_>
     ensures { result ≡ parts_of text.now }
 {
@@ -32,7 +32,7 @@ pub fn numeral_of(text: &[u8]) -> Numeral<'_>
     }
 }
 
-/// Appends a minus where a number is negative.
+/// Appends a minus sign if `negative` is true.
 fn push_sign(out: &mut Vec<u8>, negative: bool) -> Result<(), AllocError>
     ensures { OnOk result (out.new.items ≡ out.old.items ++ sign_text negative) }
 {
@@ -42,11 +42,12 @@ fn push_sign(out: &mut Vec<u8>, negative: bool) -> Result<(), AllocError>
     Ok(())
 }
 
-/// Appends the normal text of the number that a text writes. If the text is no number, appends the
-/// normal text of the longest numeral at its front, or else `0`.
+/// Appends the normal text of a number: its digits without zeros at either end, and an exponent.
+/// For example, 12 is `12`, 1200 is `12e2`, 1.50 is `15e-1`, and -0.0 is `0`. If the text is not a
+/// number, the longest number at its beginning is used, or else 0.
 ///
-/// Fails if the exponent has more than 30 digits, leading zeros not counted, whatever the other
-/// digits are.
+/// Fails with `WideExponent` if the exponent has more than 30 digits, not counting leading zeros,
+/// even if the number is 0. Fails with `Memory` if an allocation fails.
 pub fn push_normal_number(out: &mut Vec<u8>, text: &str) -> Result<(), NumberError>
     ensures ok { OnOk result (out.new.items ≡ out.old.items ++ normal_number text.now) }
     ensures narrow { OnOk result (¬ HasWideExponent text.now) }

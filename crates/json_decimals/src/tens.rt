@@ -1,4 +1,4 @@
-//! The tens of a numeral, read from its exponent and its fraction.
+//! The power of ten in a number, which comes from its exponent and its fraction.
 
 ghost use Rattle.std.specs.Option.{SomeIff};
 ghost use Rattle.std.specs.Prelude.{◌≡◌, ◌+◌, ◌-◌, ◌^◌, ◌<◌, ◌≤◌, ◌++◌, MatchOption, OnOk};
@@ -10,18 +10,19 @@ use fast_float::Numeral;
 use itoa::Buffer;
 use std::alloc::AllocError;
 
-/// Powers of ten beside a coefficient: those that it is multiplied by, and those that divide it.
+/// A power of ten, `10^up / 10^down`, by which the digits of a number, read as an integer, are
+/// multiplied.
 #[derive(Clone, Copy, Drop)]
 pub struct Tens {
-    /// The tens that the coefficient is multiplied by.
+    /// The exponent of the power that multiplies.
     pub up: u128,
-    /// The tens that divide it.
+    /// The exponent of the power that divides.
     pub down: u128,
 }
 
 impl Tens {
-    /// Returns the tens of a coefficient with `zeros` more zeros after it. At most one side has
-    /// tens.
+    /// Returns the power of ten that remains if `zeros` zeros are removed from the end of the
+    /// digits. `up` or `down` of the result is 0.
     pub(crate) fn with_zeros(self, zeros: usize) -> Tens
         requires { self.up + self.down < 10 ^ 31 }
         ensures up { result.up ≡ self.up + zeros - self.down }
@@ -35,7 +36,8 @@ impl Tens {
     }
 }
 
-/// Returns the number that digits write, if it has at most 30 digits after its leading zeros.
+/// Returns the integer that the digits are, or `None` if it has more than 30 digits, not counting
+/// leading zeros.
 fn value_of(digits: &[u8]) -> Option<u128>
     requires { AllDigits 10 digits.now }
     ensures { SomeIff result (digits_value 10 digits.now < 10 ^ 30) (digits_value 10 digits.now) }
@@ -50,7 +52,8 @@ fn value_of(digits: &[u8]) -> Option<u128>
     Some(value)
 }
 
-/// Returns the tens of a numeral, if its exponent has at most 30 digits after its leading zeros.
+/// Returns the power of ten of a numeral, or `None` if its exponent has more than 30 digits, not
+/// counting leading zeros. For example, 1.50 has the digits 150 and the power `1 / 10^2`.
 pub fn tens_of(numeral: &Numeral<'_>) -> Option<Tens>
     ensures tens { MatchOption result (10 ^ 30 ≤ digits_value 10 numeral.now.exponent)
         (λ t. (t.up ≡ tens_up numeral.now) × (t.down ≡ tens_down numeral.now)) }
@@ -74,7 +77,7 @@ pub fn tens_of(numeral: &Numeral<'_>) -> Option<Tens>
     }
 }
 
-/// Appends an exponent, or nothing if there are no tens.
+/// Appends an exponent such as `e2` or `e-1`, or nothing if the power of ten is 1.
 pub(crate) fn push_tens(out: &mut Vec<u8>, tens: Tens) -> Result<(), AllocError>
     requires { tens.up + tens.down < 10 ^ 32 }
     ensures { OnOk result (out.new.items ≡ out.old.items ++ tens_text tens.up tens.down) }
