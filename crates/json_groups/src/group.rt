@@ -9,29 +9,30 @@ use crate::tally::Tally;
 use json::Value;
 use std::alloc::{AllocError, Global};
 
-/// A path, and a tally of the values at it.
+/// A path, and the values that documents have at it.
 #[derive(Drop)]
 pub struct Group<T> {
-    /// The text of the path.
+    /// The path as text, in which `[]` is any item.
     pub path: Vec<u8>,
-    /// The number of documents that have a value there.
+    /// The number of documents that have a value at the path.
     pub documents: usize,
-    /// The tally of these values.
+    /// The tally of the values at the path.
     pub tally: T,
-    // The number of the last document that has a value there, the first being 1.
+    // The number of the last document that has a value at the path. The first document is 1, and 0
+    // means that there is none.
     last: usize,
 }
 
-/// Returns one more.
+/// Returns `n + 1`, or an error if that is too large.
 pub(crate) fn one_more(n: usize) -> Result<usize, AllocError>
     ensures { IfOk result (λ m. m ≡ n + 1) }
 {
-    // No memory holds this many documents.
+    // No memory holds so many documents, so the error is that of an allocation.
     n.checked_add(1).ok_or(AllocError)
 }
 
 impl<T: Tally> Group<T> {
-    /// Returns the group of a path, with no values.
+    /// Creates the group of a path. It has no values.
     pub(crate) fn new(alloc: Global, path: &[u8]) -> Result<Group<T>, AllocError>
         ensures path { IfOk result (λ g. g.path.items ≡ path.now) }
         ensures documents { IfOk result (λ g. g.documents ≡ 0) }
@@ -48,7 +49,7 @@ impl<T: Tally> Group<T> {
         })
     }
 
-    /// Counts a document that has a value, unless it is the last one that was counted.
+    /// Counts the document with this number, unless it is the last one that was counted.
     fn note(&mut self, document: usize) -> Result<(), AllocError>
         ensures documents { OnOk result
             (self.new.documents
@@ -65,7 +66,7 @@ impl<T: Tally> Group<T> {
         Ok(())
     }
 
-    /// Adds a value of a document.
+    /// Adds a value of the document with this number.
     pub(crate) fn add(&mut self, document: usize, value: &Value<'_>) -> Result<(), AllocError>
         ensures documents { OnOk result
             (self.new.documents

@@ -12,10 +12,10 @@ use json_parts::parts::parts_of;
 use std::alloc::{AllocError, Global};
 use std::collections::HashMap;
 
-/// The values of documents, gathered by their paths. The documents are added one after another.
+/// The values of documents, grouped by path. The documents are added one after another.
 #[derive(Drop)]
 pub struct Groups<T> {
-    // The place of the group of each path.
+    // The index in `groups` of the group of each path.
     places: HashMap<Vec<u8>, usize>,
     groups: Vec<Group<T>>,
     // The number of documents that were added, including the one that is being added.
@@ -23,7 +23,7 @@ pub struct Groups<T> {
 }
 
 impl<T: Tally> Groups<T> {
-    /// Returns the groups of no documents.
+    /// Creates empty groups.
     pub fn new(alloc: Global) -> Groups<T>
         ensures { HoldsDocuments T.Gathers [] result }
     {
@@ -36,7 +36,7 @@ impl<T: Tally> Groups<T> {
         }
     }
 
-    /// Adds the first value at a path.
+    /// Adds a value at a path that has no group yet, and creates the group.
     fn add_first(&mut self, alloc: Global, path: &[u8], value: &Value<'_>) -> Result<(), AllocError>
         ensures { OnOk result ((done : List (List Part)) (parts : List Part)
             → place_of path.now self.old.places ≡ None → HoldsParts T.Gathers done parts self.old
@@ -51,7 +51,7 @@ impl<T: Tally> Groups<T> {
         Ok(())
     }
 
-    /// Adds a value at a path.
+    /// Adds a value of the current document at a path.
     fn add(&mut self, alloc: Global, path: &[u8], value: &Value<'_>) -> Result<(), AllocError>
         requires { (done : List (List Part)) × (parts : List Part)
             × HoldsParts T.Gathers done parts self.old }
@@ -68,7 +68,8 @@ impl<T: Tally> Groups<T> {
         Ok(())
     }
 
-    /// Adds the parts of a document.
+    /// Adds the parts of a document: all members and items at any depth. If this fails, some parts
+    /// may have been added.
     pub fn add_document(&mut self, alloc: Global, document: &Value<'_>) -> Result<(), AllocError>
         requires { (documents : List (List Part)) × HoldsDocuments T.Gathers documents self.old }
         ensures { OnOk result ((documents : List (List Part))
@@ -84,7 +85,7 @@ impl<T: Tally> Groups<T> {
         Ok(())
     }
 
-    /// Returns the groups, in the order in which their paths first came.
+    /// Returns the groups, in the order in which their paths were first added.
     pub fn into_groups(self) -> Vec<Group<T>>
         ensures { (documents : List (List Part)) → HoldsDocuments T.Gathers documents self
             → AreGroupsOf T.Gathers documents result.items }

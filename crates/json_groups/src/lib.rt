@@ -1,4 +1,4 @@
-//! The parts of JSON documents, gathered by their paths.
+//! The parts of JSON documents, grouped by path.
 #![tactic(auto)]
 
 pub mod group;

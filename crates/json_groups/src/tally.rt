@@ -7,16 +7,16 @@ ghost use Rattle.json.specs.Value.{value_view};
 use json::Value;
 use std::alloc::{AllocError, Global};
 
-/// A tally of values, which are added one after another.
+/// A summary of values, which are added one after another.
 pub trait Tally: Drop + Sized {
-    // The tally was made from these values.
+    // States that a tally was made from these values, in this order.
     ghost Gathers: { List Json → Self → Type 0 };
 
-    /// Returns the tally of no values.
+    /// Creates a tally of no values.
     fn new(alloc: Global) -> Result<Self, AllocError>
         ensures { IfOk result (λ t. Gathers [] t) };
 
-    /// Adds a value.
+    /// Adds a value to the tally.
     fn add(&mut self, value: &Value<'_>) -> Result<(), AllocError>
         ensures { OnOk result ((values : List Json) → Gathers values self.old
             → Gathers (values ++ value_view value.now ∷ []) self.new) };
