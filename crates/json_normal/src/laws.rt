@@ -3,8 +3,9 @@
 ghost use Rattle.json_normal.specs.Laws.{MembersInAnyOrder, NormalFormsTell, NormalTextsTell};
 ghost use Rattle.json_normal.specs.Laws.{NumbersAreReadWhole, TextReadsBack};
 
-/// Says that two values are the same if and only if their normal forms are equal, and likewise
-/// their normal texts. Says that the normal text of a value is JSON of its normal form.
+/// States that two values are equal if and only if they have the same normal form, and if and only
+/// if they have the same normal text. The normal text of a value of at most `max_depth` levels is
+/// JSON of the value's normal form.
 pub fn normal_laws()
     ensures members_in_any_order { MembersInAnyOrder }
     ensures normal_forms_tell { NormalFormsTell }

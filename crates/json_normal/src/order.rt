@@ -1,4 +1,4 @@
-//! The members of an object in the order of their names.
+//! Sorting of the members of an object by name.
 
 ghost use Rattle.std.specs.List.Sorted.{IsPermutation};
 ghost use Rattle.std.specs.Prelude.{◌≡◌, IfOk, map};
@@ -9,7 +9,7 @@ ghost use Rattle.json_normal.specs.Normal.{normal_entries, in_order, entry_of};
 use json::Value;
 use std::alloc::{AllocError, Global};
 
-/// Returns references to the members of an object, in the order of their names.
+/// Returns references to the members of an object, sorted by name. Names are compared byte by byte.
 pub(crate) fn in_key_order<'v, 'a>(
     alloc: Global,
     members: &'v Vec<(&'a str, Value<'a>)>,

@@ -1,4 +1,4 @@
-//! Writing the normal form of a value.
+//! Writing of the normal text of a value.
 
 ghost use Rattle.std.specs.Prelude.{◌≡◌, [], ◌∷◌, ◌++◌, OnOk, ⊤};
 ghost use Rattle.json.specs.Print.{IsPrintable};
@@ -21,7 +21,7 @@ use json_decimals::numbers::push_normal_number;
 use std::alloc::Global;
 use std::str::from_utf8_unchecked;
 
-/// Appends a token.
+/// Writes a token.
 fn write_token(writer: &mut Writer, token: Token<'_>) -> Result<(), NumberError>
     requires { IsPrintable (token_of token) }
     ensures ok { OnOk result (writer.new.tokens
@@ -33,7 +33,9 @@ fn write_token(writer: &mut Writer, token: Token<'_>) -> Result<(), NumberError>
     Ok(())
 }
 
-/// Appends the normal text of a number. `room` holds the text before it is written.
+/// Writes the normal text of a number. `room` is a buffer whose contents are overwritten. Fails
+/// with `WideExponent` if the exponent has more than 30 digits, and with `Memory` if an allocation
+/// fails.
 fn write_number(writer: &mut Writer, room: &mut Vec<u8>, text: &str) -> Result<(), NumberError>
     ensures ok { OnOk result (writer.new.tokens
         ≡ writer.old.tokens ++ number (normal_number text.now) ∷ []) }
@@ -47,9 +49,11 @@ fn write_number(writer: &mut Writer, room: &mut Vec<u8>, text: &str) -> Result<(
     Ok(())
 }
 
-/// Appends the tokens of a value's normal form. `room` is used for its numbers, one at a time.
+/// Writes the normal text of a value. `room` is a buffer whose contents are overwritten. Fails with
+/// `WideExponent` if the exponent of a number has more than 30 digits, and with `Memory` if an
+/// allocation fails.
 ///
-/// A failure leaves some of the tokens written.
+/// If this fails, some tokens may have been written.
 #[cycle(normal)]
 pub fn write_normal<'a>(
     alloc: Global,
@@ -79,7 +83,7 @@ pub fn write_normal<'a>(
     }
 }
 
-/// Appends the tokens of an array's items and its closing bracket.
+/// Writes the items of an array and its closing bracket.
 #[cycle(normal)]
 fn write_items<'a>(
     alloc: Global,
@@ -99,7 +103,7 @@ fn write_items<'a>(
     write_token(writer, Token::EndArray)
 }
 
-/// Appends the tokens of an object's members, in the order of their names, and its closing bracket.
+/// Writes the members of an object, sorted by name, and its closing bracket.
 #[cycle(normal)]
 fn write_members<'a>(
     alloc: Global,
