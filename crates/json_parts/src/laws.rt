@@ -2,7 +2,8 @@
 
 ghost use Rattle.json_parts.specs.Laws.{PartsHaveNumbers};
 
-/// Says that the texts of numbers in parts are numbers, if those of the value are.
+/// States that the numbers inside the parts of a value are valid JSON numbers, if all numbers
+/// inside the value are.
 pub fn part_laws()
     ensures { PartsHaveNumbers }
 {}

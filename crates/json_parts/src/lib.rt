@@ -1,4 +1,4 @@
-//! The parts of a JSON value, each with the text of the path to it.
+//! The parts of a JSON value: its members and items at any depth, each with its path.
 #![tactic(auto)]
 
 pub mod laws;

@@ -1,4 +1,4 @@
-//! The texts of names in paths, as `json_changes` writes them.
+//! Names in the texts of paths. They are written as `json_changes` writes them.
 
 ghost use Rattle.std.specs.List.{list_all};
 ghost use Rattle.std.specs.Prelude.{◌≡◌, ◌++◌, OnOk, length, take};
@@ -9,7 +9,8 @@ ghost use Rattle.json_parts.specs.Parts.{item_path};
 use json::{Value, to_vec};
 use std::alloc::{AllocError, Global};
 
-/// Returns whether each byte needs no quotes.
+/// Returns whether all bytes can be in a name without quotes: letters and digits of ASCII, `_` and
+/// `-`.
 fn are_plain(bytes: &[u8]) -> bool
     ensures { result ≡ list_all is_plain_byte bytes.now }
 {
@@ -18,7 +19,7 @@ fn are_plain(bytes: &[u8]) -> bool
         .all(|b| b.is_ascii_alphanumeric() || *b == b'_' || *b == b'-')
 }
 
-/// Returns whether a name needs no quotes.
+/// Returns whether a name needs no quotes in a path.
 fn is_plain(name: &str) -> bool
     ensures { result ≡ is_plain name.now }
 {
@@ -35,7 +36,8 @@ fn push_quoted(alloc: Global, path: &mut Vec<u8>, name: &str) -> Result<(), Allo
     Ok(())
 }
 
-/// Appends the text of the step that leads to the member with this name.
+/// Appends the step to the member named `key`: `.key`, or `."a b"` if the name needs quotes. At the
+/// beginning of a path a name without quotes has no dot.
 fn push_step(alloc: Global, path: &mut Vec<u8>, key: &str) -> Result<(), AllocError>
     ensures { OnOk result (path.new.items ≡ path.old.items ++ name_text path.old.items key.now) }
 {
@@ -50,7 +52,8 @@ fn push_step(alloc: Global, path: &mut Vec<u8>, key: &str) -> Result<(), AllocEr
     Ok(())
 }
 
-/// Appends the same text as [`push_step`], and says besides that what stood before it stays.
+/// Appends the step to the member named `key`, as [`push_step`] does. The contract also states that
+/// the text before the step is unchanged.
 pub(crate) fn push_name(alloc: Global, path: &mut Vec<u8>, key: &str) -> Result<(), AllocError>
     ensures path { OnOk result
         (path.new.items ≡ path.old.items ++ name_text path.old.items key.now) }
@@ -60,7 +63,7 @@ pub(crate) fn push_name(alloc: Global, path: &mut Vec<u8>, key: &str) -> Result<
     Ok(())
 }
 
-/// Appends the step that leads to any item.
+/// Appends the step to any item of an array, `[]`.
 pub(crate) fn push_any_item(path: &mut Vec<u8>) -> Result<(), AllocError>
     ensures path { OnOk result (path.new.items ≡ item_path path.old.items) }
     ensures front { OnOk result (take (length path.old.items) path.new.items ≡ path.old.items) }

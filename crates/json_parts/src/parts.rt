@@ -1,4 +1,4 @@
-//! The parts of values.
+//! The parts of values, and their paths.
 
 ghost use Rattle.std.specs.Prelude.{◌≡◌, ◌++◌, ◌∷◌, [], IfOk, OnOk, map};
 ghost use Rattle.json.specs.Value.{items_view, members_view, value_view};
@@ -9,14 +9,14 @@ use crate::names::{push_any_item, push_name};
 use json::Value;
 use std::alloc::{AllocError, Global};
 
-/// A part of a value, and the text of the path to it. In the text `[]` stands for any item.
+/// A part of a value, and its path. The path is a text in which `[]` is any item of an array.
 #[derive(Drop)]
 pub struct Part<'v, 'a> {
     pub path: Vec<u8>,
     pub value: &'v Value<'a>,
 }
 
-/// Appends a part at a path.
+/// Appends a part with its path.
 fn push_part<'v, 'a>(
     alloc: Global,
     path: &[u8],
@@ -31,7 +31,7 @@ fn push_part<'v, 'a>(
     Ok(())
 }
 
-/// Appends the parts of a value at a path.
+/// Appends the parts of a value at the path `path`. Afterwards `path` is unchanged.
 #[cycle(parts)]
 fn push_below<'v, 'a>(
     alloc: Global,
@@ -51,7 +51,7 @@ fn push_below<'v, 'a>(
     }
 }
 
-/// Appends the items of an array at a path, and their parts.
+/// Appends each item of an array at the path `path`, followed by the parts of the item.
 #[cycle(parts)]
 fn push_items<'v, 'a>(
     alloc: Global,
@@ -74,7 +74,7 @@ fn push_items<'v, 'a>(
     Ok(())
 }
 
-/// Appends the members of an object at a path, and their parts.
+/// Appends the value of each member of an object at the path `path`, followed by its parts.
 #[cycle(parts)]
 fn push_members<'v, 'a>(
     alloc: Global,
@@ -97,8 +97,8 @@ fn push_members<'v, 'a>(
     Ok(())
 }
 
-/// Returns the parts of a value: each member and each item, and their parts, in the order in which
-/// they stand.
+/// Returns the parts of a value: each member and item, followed by its own parts. The order is that
+/// of the JSON text. For example, the parts of `{"a": [7]}` are the array at `a` and 7 at `a[]`.
 pub fn parts_of<'v, 'a>(
     alloc: Global,
     value: &'v Value<'a>,
