@@ -2,8 +2,8 @@
 
 ghost use Rattle.json_paths.specs.Laws.{EachHasAText, OnePath, OnePattern};
 
-/// Says that a text writes at most one path and at most one pattern, and that each pattern has a
-/// text.
+/// States that a text is the text of at most one path and of at most one pattern. Each pattern with
+/// at least one step has a text, if its indices are below 2^64.
 pub fn path_laws()
     ensures one_path { OnePath }
     ensures one_pattern { OnePattern }

@@ -1,12 +1,13 @@
-//! Paths as a user writes them.
+//! Paths as text, as users write them.
 //!
-//! A path is one or more steps, one after another: a dot and a name, a dot and a name within
-//! quotes, or the digits of a place within brackets. The dot before the first name may be left out
-//! where this has no quotes. In `a.b[0]` are the names `a` and `b` and the place 0, and in
-//! `."a.b"` is one name. A name within quotes is a string of JSON. A name without them has no dot,
-//! bracket or quote in it, and one byte or more.
+//! A path is one or more steps, directly after one another. A step is a dot and a name, a dot and a
+//! name within quotes, or an index within brackets. The dot before the first name may be left out
+//! if the name has no quotes. For example, `a.b[0]` has the names `a` and `b` and the index 0, and
+//! `."a.b"` has a single name. A name within quotes is a JSON string. A name without quotes has at
+//! least one byte, and no dot, bracket or quote.
 //!
-//! A pattern is written as a path is, and in it `[]` is the step to any item: `items[].price`.
+//! The text of a pattern is like that of a path. The step `[]` in it is any item of an array, as in
+//! `items[].price`.
 
 ghost use Rattle.json.specs.Ascii.{quote, dot, open_bracket};
 ghost use Rattle.json.specs.Json.{string, document};
@@ -27,21 +28,21 @@ use crate::pattern::{Pattern, PatternStep};
 use json::{Error, Scratch, Value};
 use std::alloc::Global;
 
-/// A step of a pattern, and where its text ends.
+/// A step of a pattern, and the index of the byte after its text.
 #[derive(Drop)]
 struct Found {
     step: PatternStep,
     end: usize,
 }
 
-/// Returns whether a byte may stand in a name without quotes.
+/// Returns whether a byte can be in a name without quotes.
 fn is_plain(byte: u8) -> bool
     ensures { result ≡ is_plain byte }
 {
     !matches!(byte, b'.' | b'[' | b']' | b'"')
 }
 
-/// Returns the end of the bytes from `start` on that may stand in a name without quotes.
+/// Returns the index after the bytes from `start` on that can be in a name without quotes.
 fn plain_end(bytes: &[u8], start: usize) -> usize
     requires { start ≤ length bytes.now }
     ensures { result ≡ start + prefix_len is_plain (drop start bytes.now) }
@@ -53,8 +54,8 @@ fn plain_end(bytes: &[u8], start: usize) -> usize
     end
 }
 
-/// Reads the name without quotes that begins at byte `start`. Its dot stands before that, or is
-/// left out.
+/// Reads the name without quotes that begins at byte `start`. A dot before it was read already.
+/// Fails with `Invalid` if the name is empty.
 fn plain_name(alloc: Global, text: &str, start: usize) -> Result<Found, PathError>
     requires starts { IsCharBoundary text.now start }
     requires unquoted { slice_index text.now start ≢ quote }
@@ -69,7 +70,8 @@ fn plain_name(alloc: Global, text: &str, start: usize) -> Result<Found, PathErro
     Ok(Found { step, end })
 }
 
-/// Returns the end of a name with quotes, after the second one. The first one is byte `start`.
+/// Returns the index after the closing quote of a name, or `None` if there is none. The opening
+/// quote is at byte `start`.
 fn quoted_end(bytes: &[u8], start: usize) -> Option<usize>
     requires { start < length bytes.now }
     ensures { result
@@ -85,7 +87,7 @@ fn quoted_end(bytes: &[u8], start: usize) -> Option<usize>
     None
 }
 
-/// Returns the text that a string of JSON writes.
+/// Returns the text of a JSON string. Fails with `Invalid` if `quoted` is not a JSON string.
 fn unquoted(alloc: Global, quoted: &str) -> Result<String, PathError>
     ensures read { IfOk result (λ name. document quoted.now ≡ Some (string (string_bytes name))) }
     ensures invalid { IfErr result
@@ -100,7 +102,8 @@ fn unquoted(alloc: Global, quoted: &str) -> Result<String, PathError>
     }
 }
 
-/// Reads the name within quotes whose first quote is byte `start`.
+/// Reads the name within quotes whose opening quote is at byte `start`. Fails with `Invalid` if it
+/// is not a JSON string.
 fn quoted_name(alloc: Global, text: &str, start: usize) -> Result<Found, PathError>
     requires within { start < length text.now }
     requires quoted { slice_index text.now start ≡ quote }
@@ -114,7 +117,7 @@ fn quoted_name(alloc: Global, text: &str, start: usize) -> Result<Found, PathErr
     Ok(Found { step, end })
 }
 
-/// Reads the name that begins at byte `start`, with quotes or without.
+/// Reads the name that begins at byte `start`, with quotes or without them.
 fn name_at(alloc: Global, text: &str, start: usize) -> Result<Found, PathError>
     requires { IsCharBoundary text.now start }
     ensures { Finds text.now start (dot ∷ drop start text.now) result }
@@ -125,20 +128,21 @@ fn name_at(alloc: Global, text: &str, start: usize) -> Result<Found, PathError>
     plain_name(alloc, text, start)
 }
 
-/// Returns the place that decimal digits write, or `None` for any other text and from 2^64 on.
+/// Returns the index that decimal digits write, or `None` if the text is not digits or the index is
+/// 2^64 or more.
 fn place_of(digits: &str) -> Option<usize>
     ensures { MatchOption result ((i : _) → ¬ (IsPlaceText digits.now i))
         (λ i. IsPlaceText digits.now i) }
 {
-    // `parse` would accept the plus sign.
+    // A plus sign is refused here, since `parse` accepts it.
     if digits.starts_with('+') {
         return None;
     }
     digits.parse::<usize>().ok()
 }
 
-/// Reads the step within brackets. After the first bracket, at byte `start`, stand the digits of a
-/// place, or nothing, which means any item.
+/// Reads the step after an opening bracket, from byte `start` on: an index or nothing, and the
+/// closing bracket. Nothing means any item. Fails with `Invalid` for other texts.
 fn item_at(text: &str, start: usize) -> Result<Found, PathError>
     requires { IsCharBoundary text.now start }
     ensures { Finds text.now start (open_bracket ∷ drop start text.now) result }
@@ -160,7 +164,8 @@ fn item_at(text: &str, start: usize) -> Result<Found, PathError>
     Ok(Found { step, end: behind })
 }
 
-/// Reads the step that begins at a place. The dot before the first name may be missing.
+/// Reads the step that begins at byte `start`. The dot before the first name may be missing. Fails
+/// with `Invalid` if there is no step.
 fn step_at(alloc: Global, text: &str, start: usize) -> Result<Found, PathError>
     requires { start < length text.now }
     ensures { Finds text.now start (left_at text.now start) result }
@@ -178,7 +183,8 @@ fn step_at(alloc: Global, text: &str, start: usize) -> Result<Found, PathError>
     plain_name(alloc, text, start)
 }
 
-/// Returns the path that a text writes, or an error if it writes none.
+/// Parses a path. Fails with `Invalid` if the text is not a path, and with `Memory` if an
+/// allocation fails.
 pub fn parse_path(alloc: Global, text: &str) -> Result<Path, PathError>
     ensures read { IfOk result (λ path. IsPathText text.now (path_view path)) }
     ensures invalid { IfErr result (λ e. IsInvalid e → IsNoPath text.now) }
@@ -199,7 +205,8 @@ pub fn parse_path(alloc: Global, text: &str) -> Result<Path, PathError>
     Ok(Path { steps })
 }
 
-/// Returns the pattern that a text writes, or an error if it writes none.
+/// Parses a pattern. Fails with `Invalid` if the text is not a pattern, and with `Memory` if an
+/// allocation fails.
 pub fn parse_pattern(alloc: Global, text: &str) -> Result<Pattern, PathError>
     ensures read { IfOk result (λ pattern. IsPatternText text.now (pattern_view pattern)) }
     ensures invalid { IfErr result (λ e. IsInvalid e → IsNoPattern text.now) }

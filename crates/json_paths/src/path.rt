@@ -7,21 +7,21 @@ ghost use Rattle.json_paths.specs.Views.{path_view, step_view};
 
 use json::Value;
 
-/// A step into a value: to the member of a name, or to the item at a place, the first being 0.
+/// A step into a value: to the member with a name, or to the item at an index.
 #[derive(Drop)]
 pub enum Step {
     Name(String),
     Place(usize),
 }
 
-/// The steps from a value to a part of it.
+/// A path from a value to a part of it.
 #[derive(Drop)]
 pub struct Path {
     pub steps: Vec<Step>,
 }
 
 impl Step {
-    /// Returns the part of a value that is one step further in, where there is one.
+    /// Returns the part of a value to which the step leads, or `None` if there is none.
     pub fn part_of<'v, 'a>(&self, value: &'v Value<'a>) -> Option<&'v Value<'a>>
         ensures { option_map (λ v. value_view v.now) result
             ≡ step_into (step_view self.now) (value_view value.now) }
@@ -33,7 +33,7 @@ impl Step {
     }
 }
 
-/// Returns the part of a value that these steps lead to, where there is one.
+/// Returns the part of a value to which the steps lead, or `None` if there is none.
 fn part_behind<'v, 'a>(steps: &[Step], value: &'v Value<'a>) -> Option<&'v Value<'a>>
     ensures { option_map (λ v. value_view v.now) result
         ≡ part_at (map step_view steps.now) (value_view value.now) }
@@ -48,7 +48,7 @@ fn part_behind<'v, 'a>(steps: &[Step], value: &'v Value<'a>) -> Option<&'v Value
 }
 
 impl Path {
-    /// Returns the part of a value that the path leads to, where there is one.
+    /// Returns the part of a value to which the path leads, or `None` if there is none.
     pub fn part_of<'v, 'a>(&self, value: &'v Value<'a>) -> Option<&'v Value<'a>>
         ensures { option_map (λ v. value_view v.now) result
             ≡ part_at (path_view self.now) (value_view value.now) }

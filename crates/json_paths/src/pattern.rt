@@ -1,4 +1,4 @@
-//! Patterns, which name parts of values by the paths to them.
+//! Patterns, which name parts of values by their paths.
 
 ghost use Rattle.std.specs.Prelude.{◌≡◌, map};
 ghost use Rattle.json_paths.specs.PatternViews.{pattern_step_view, pattern_view};
@@ -7,21 +7,21 @@ ghost use Rattle.json_paths.specs.Views.{step_view};
 
 use crate::path::Step;
 
-/// A step of a pattern: one step, or the step to any item of an array.
+/// A step of a pattern: exactly one step of a path, or the step to any item of an array.
 #[derive(Drop)]
 pub enum PatternStep {
     Exactly(Step),
     AnyItem,
 }
 
-/// The steps to the parts of a value that a pattern names.
+/// A path that may have the step to any item of an array. It names all parts whose paths fit it.
 #[derive(Drop)]
 pub struct Pattern {
     pub steps: Vec<PatternStep>,
 }
 
 impl PatternStep {
-    /// Returns whether this step of a pattern allows a step.
+    /// Returns whether the step of a path fits this step of a pattern.
     pub fn fits(&self, step: &Step) -> bool
         ensures { result ≡ fits (pattern_step_view self.now) (step_view step.now) }
     {
@@ -34,7 +34,8 @@ impl PatternStep {
     }
 }
 
-/// Returns whether a path leads to a part that these steps name, or to a part within it.
+/// Returns whether the steps of a pattern name the part at a path, or a part around it: they fit
+/// the beginning of the path.
 fn do_begin(steps: &[PatternStep], path: &[Step]) -> bool
     ensures { result ≡ begins (map pattern_step_view steps.now) (map step_view path.now) }
 {
@@ -47,7 +48,8 @@ fn do_begin(steps: &[PatternStep], path: &[Step]) -> bool
     }
 }
 
-/// Returns whether a path leads to a part around those that these steps name.
+/// Returns whether the steps of a pattern name a part inside the part at a path: the path fits the
+/// beginning of the steps, and is shorter.
 fn do_go_on(steps: &[PatternStep], path: &[Step]) -> bool
     ensures { result ≡ leads_to (map pattern_step_view steps.now) (map step_view path.now) }
 {
@@ -61,14 +63,16 @@ fn do_go_on(steps: &[PatternStep], path: &[Step]) -> bool
 }
 
 impl Pattern {
-    /// Returns whether a path leads to a part that the pattern names, or to a part within it.
+    /// Returns whether the pattern names the part at a path, or a part around it. For example,
+    /// `a[]` names a part around `a[0].b`.
     pub fn begins(&self, path: &[Step]) -> bool
         ensures { result ≡ begins (pattern_view self.now) (map step_view path.now) }
     {
         do_begin(&self.steps, path)
     }
 
-    /// Returns whether a path leads to a part around those that the pattern names.
+    /// Returns whether the pattern names a part inside the part at a path. For example, `a[].b`
+    /// names a part inside `a[0]`.
     pub fn goes_on_in(&self, path: &[Step]) -> bool
         ensures { result ≡ leads_to (pattern_view self.now) (map step_view path.now) }
     {
