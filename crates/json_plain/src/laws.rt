@@ -1,9 +1,9 @@
-//! Laws of plain JSON texts. The function does nothing; its contract is the laws.
+//! Laws of plain JSON texts.
 
 ghost use Rattle.json_plain.specs.Laws.{HighOnesAreEscaped, LowOnesAreEscaped, ValuesAreKept};
 
-/// Says that a plain JSON text has no control character, and that it is JSON of the value that was
-/// printed.
+/// States that a plain JSON text has no control character, if the original text has no byte below
+/// 32. The plain text of a printed value of at most `max_depth` levels is JSON of the same value.
 pub fn plain_laws()
     ensures high { HighOnesAreEscaped }
     ensures low { LowOnesAreEscaped }

@@ -1,4 +1,4 @@
-//! JSON texts as they are printed: without a character that a terminal obeys.
+//! JSON texts for printing on a terminal. They have no control characters.
 #![tactic(auto)]
 
 pub mod laws;

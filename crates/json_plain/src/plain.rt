@@ -7,22 +7,22 @@ ghost use Rattle.json_plain.specs.Plain.{plain_json};
 
 use std::alloc::AllocError;
 
-/// Returns whether two bytes are a control character from U+0080 to U+009F in UTF-8.
+/// Returns whether two bytes are the UTF-8 encoding of a control character from U+0080 to U+009F.
 fn is_high_control(first: u8, second: u8) -> bool
     ensures { result ≡ is_high_control first second }
 {
     first == 194 && 127 < second && second < 160
 }
 
-/// Returns whether a byte is U+007F, or ends a character from U+0080 to U+009F. `before` is the
-/// byte before it.
+/// Returns whether the output for `byte` is an escape: the byte is U+007F, or the second byte of a
+/// character from U+0080 to U+009F. `before` is the byte before it.
 fn is_escaped(before: u8, byte: u8) -> bool
     ensures { result ≡ is_escaped before byte }
 {
     byte == 127 || is_high_control(before, byte)
 }
 
-/// Returns a hexadecimal digit, in small letters.
+/// Returns the hexadecimal digit of a number below 16, as an ASCII byte in lower case.
 fn hex_digit(n: u8) -> u8
     requires { n < 16 }
     ensures { result ≡ digit_glyph false n }
@@ -30,7 +30,7 @@ fn hex_digit(n: u8) -> u8
     if n < 10 { b'0' + n } else { b'a' + (n - 10) }
 }
 
-/// Appends a character below 256 as `\u` and four hexadecimal digits.
+/// Appends the character of code `code` as `\u` and four hexadecimal digits.
 fn push_escape(out: &mut Vec<u8>, code: u8) -> Result<(), AllocError>
     ensures { OnOk result (out.new.items ≡ out.old.items ++ escape_text code) }
 {
@@ -40,7 +40,9 @@ fn push_escape(out: &mut Vec<u8>, code: u8) -> Result<(), AllocError>
     Ok(())
 }
 
-/// Appends the output for a byte between two others.
+/// Appends the output for `byte`. For the first byte of a character from U+0080 to U+009F this is
+/// nothing, since its escape is written for the second byte. `before` and `after` are the adjacent
+/// bytes.
 #[tactic(auto, unfolding(crate::specs::Plain::plain_byte))]
 fn push_byte(out: &mut Vec<u8>, before: u8, byte: u8, after: u8) -> Result<(), AllocError>
     ensures { OnOk result (out.new.items ≡ out.old.items ++ plain_byte before byte after) }
@@ -56,14 +58,15 @@ fn push_byte(out: &mut Vec<u8>, before: u8, byte: u8, after: u8) -> Result<(), A
     Ok(())
 }
 
-/// Returns byte `i`, or 0 where there is none.
+/// Returns the byte at index `i`, or 0 if there is none.
 fn byte_at(bytes: &[u8], i: usize) -> u8
     ensures { result ≡ get_or bytes.now i 0 }
 {
     if i < bytes.len() { bytes[i] } else { 0 }
 }
 
-/// Appends a JSON text, in which each character from U+007F to U+009F is escaped.
+/// Appends a JSON text, in which each character from U+007F to U+009F is replaced by an escape such
+/// as `\u0085`. All other bytes are unchanged.
 pub fn push_plain_json(out: &mut Vec<u8>, text: &[u8]) -> Result<(), AllocError>
     ensures { OnOk result (out.new.items ≡ out.old.items ++ plain_json text.now) }
 {
