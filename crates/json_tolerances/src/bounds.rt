@@ -1,4 +1,4 @@
-//! Bounds of the distance between two numbers.
+//! Bounds for the difference of two numbers.
 
 ghost use Rattle.std.specs.Prelude.{◌≡◌, ◌+◌, ◌^◌, ◌<◌, false, IfErr, IfOk};
 ghost use Rattle.json.specs.Print.{IsNumber};
@@ -11,7 +11,7 @@ use json::is_number;
 use json_decimals::tens::Tens;
 use std::marker::Model;
 
-/// A bound of the distance between two numbers: a decimal of at most 18 digits that is not
+/// A bound for the difference of two numbers. It is a decimal of at most 18 digits, and not
 /// negative.
 #[derive(Drop)]
 pub struct Bound {
@@ -37,11 +37,12 @@ impl Model for Bound {
 }
 
 impl Bound {
-    /// Returns the bound that a text writes.
+    /// Parses a bound.
     ///
-    /// Fails with `NotANumber` if the text is no number of JSON. Otherwise fails with `Negative` if
-    /// it begins with a minus, with `WideExponent`, or with `TooLong` if it has more than 18
-    /// digits, leading zeros not counted.
+    /// Fails with `NotANumber` if the text is not a JSON number. Otherwise fails with
+    /// `WideExponent` if the exponent has more than 30 digits, with `Negative` if the text begins
+    /// with a minus sign, or with `TooLong` if the number has more than 18 digits. Leading zeros
+    /// don't count.
     pub fn read(text: &str) -> Result<Bound, BoundError>
         ensures bound { IfOk result (λ bound. bound ≡ decimal_of text.now) }
         ensures number { IfOk result (λ _. IsNumber text.now) }
@@ -67,14 +68,14 @@ impl Bound {
         })
     }
 
-    /// Returns the digits, as a number.
+    /// Returns the digits, read as an integer.
     pub(crate) fn coefficient(&self) -> u64
         ensures { result ≡ self.now.coefficient }
     {
         self.coefficient
     }
 
-    /// Returns the tens that the digits are multiplied by, and those that divide them.
+    /// Returns the power of ten by which the digits are multiplied.
     pub(crate) fn tens(&self) -> Tens
         ensures up { result.up ≡ self.now.up }
         ensures down { result.down ≡ self.now.down }

@@ -1,4 +1,4 @@
-//! Numbers that lie close together.
+//! Closeness of numbers: whether two numbers differ by at most a margin.
 
 ghost use Rattle.std.specs.Prelude.{◌≡◌, ◌⊎◌, IfErr, IfOk};
 ghost use Rattle.json_decimals.specs.Decimals.{decimal_of};
@@ -11,16 +11,16 @@ use crate::sums::{is_each_at_most, is_sum_at_most, is_sum_at_most_either};
 use crate::terms::Term;
 use json_decimals::error::NumberError;
 
-/// The greatest distance at which two numbers are still close together.
+/// The margin within which two numbers are close: the greatest difference that is allowed.
 #[derive(Drop)]
 pub enum Margin {
-    /// This distance.
+    /// The difference is at most this number.
     Absolute(Bound),
-    /// This part of the number that is larger without its sign.
+    /// The difference is at most this number times the larger of the two absolute values.
     Relative(Bound),
 }
 
-/// Returns whether two numbers lie at most `bound` apart.
+/// Returns whether two numbers differ by at most `bound`.
 fn are_within(bound: &Bound, left: &Number<'_>, right: &Number<'_>) -> bool
     ensures { result ≡ is_within bound.now left.now right.now }
 {
@@ -35,7 +35,7 @@ fn are_within(bound: &Bound, left: &Number<'_>, right: &Number<'_>) -> bool
     is_sum_at_most(&first, &second, &room, times)
 }
 
-/// Returns whether two numbers lie at most `bound` times the larger one apart, without the signs.
+/// Returns whether two numbers differ by at most `bound` times the larger of their absolute values.
 fn are_within_part(bound: &Bound, left: &Number<'_>, right: &Number<'_>) -> bool
     ensures { result ≡ is_within_part bound.now left.now right.now }
 {
@@ -52,10 +52,11 @@ fn are_within_part(bound: &Bound, left: &Number<'_>, right: &Number<'_>) -> bool
 }
 
 impl Margin {
-    /// Returns whether the numbers that two texts write lie this close together.
+    /// Returns whether the numbers that two texts write differ by at most the margin. For example,
+    /// a margin of `Absolute` 0.01 allows 0.30 and 0.31.
     ///
-    /// Fails with `WideExponent` if the exponent of one has more than 30 digits, leading zeros not
-    /// counted.
+    /// Fails with `WideExponent` if an exponent has more than 30 digits, not counting leading
+    /// zeros.
     pub fn allows(&self, left: &str, right: &str) -> Result<bool, NumberError>
         ensures close { IfOk result
             (λ b. b ≡ is_close self.now (decimal_of left.now) (decimal_of right.now)) }

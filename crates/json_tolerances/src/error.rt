@@ -2,7 +2,7 @@
 
 use thiserror::Error;
 
-/// The reason why a text is no bound.
+/// The reason why a text is not a bound.
 #[derive(Clone, Copy, Debug, Drop, Error, PartialEq, Eq)]
 pub enum BoundError {
     /// The text is not a number of JSON.
@@ -11,10 +11,10 @@ pub enum BoundError {
     /// The number begins with a minus.
     #[error("is negative")]
     Negative,
-    /// The exponent has more than 30 digits, its leading zeros not counted.
+    /// The exponent has more than 30 digits, not counting leading zeros.
     #[error("has an exponent of more than 30 digits")]
     WideExponent,
-    /// The number has more than 18 digits, its leading zeros not counted.
+    /// The number has more than 18 digits, not counting leading zeros.
     #[error("has more than 18 digits")]
     TooLong,
 }

@@ -3,16 +3,16 @@
 ghost use Rattle.json_tolerances.specs.Laws.{EqualAreClose, IsSymmetric, OnlyEqualWithinZero};
 ghost use Rattle.json_tolerances.specs.OrderLaws.{EqualAreNotLess, LessIsOneWay, LessPassesOn};
 
-/// Says that closeness does not depend on which number comes first, that equal numbers are close
-/// within any margin, and that only equal numbers are close within a margin of 0.
+/// States that closeness is symmetric, that equal numbers are close within any margin, and that
+/// only equal numbers are close within a margin of 0.
 pub fn closeness_laws()
     ensures symmetric { IsSymmetric }
     ensures equal_are_close { EqualAreClose }
     ensures only_equal_within_zero { OnlyEqualWithinZero }
 {}
 
-/// Says that of two numbers at most one is less than the other, and neither if and only if they are
-/// equal. Says that if `a` is less than `c`, and `b` is not, then `a` is less than `b`.
+/// States that of two numbers at most one is less than the other. They are equal if and only if
+/// neither is less. If `a` is less than `c`, and `b` is not, then `a` is less than `b`.
 pub fn order_laws()
     ensures passes_on { LessPassesOn }
     ensures one_way { LessIsOneWay }

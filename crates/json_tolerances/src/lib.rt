@@ -1,4 +1,4 @@
-//! Numbers that lie close together, in exact decimals.
+//! Closeness and order of the numbers of JSON, in exact decimals.
 #![tactic(auto)]
 
 pub mod bounds;

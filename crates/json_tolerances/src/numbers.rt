@@ -1,4 +1,4 @@
-//! Numbers of JSON as exact decimals.
+//! The numbers of JSON as exact decimals.
 
 ghost use Rattle.std.specs.Bool.{beq};
 ghost use Rattle.std.specs.Option.{SomeIff};
@@ -12,7 +12,8 @@ use json_decimals::numbers::{is_negative, numeral_of};
 use json_decimals::tens::{Tens, tens_of};
 use std::marker::Model;
 
-/// A number of JSON, as an exact decimal: the digits stay where they are read.
+/// A number of JSON as an exact decimal: a sign, digits, and a power of ten. It borrows the digits
+/// from the text.
 #[derive(Drop)]
 pub(crate) struct Number<'a> {
     negative: bool,
@@ -38,8 +39,8 @@ impl<'a> Model for Number<'a> {
 }
 
 impl<'a> Number<'a> {
-    /// Returns the number that a text writes, if its exponent has at most 30 digits, leading zeros
-    /// not counted.
+    /// Parses a number, or returns `None` if its exponent has more than 30 digits, not counting
+    /// leading zeros.
     #[tactic(auto, unfolding(json_decimals::specs::Decimals::decimal_of))]
     pub(crate) fn read(text: &'a str) -> Option<Number<'a>>
         ensures number { MatchOption result (HasWideExponent text.now)
@@ -56,21 +57,21 @@ impl<'a> Number<'a> {
         })
     }
 
-    /// Returns whether a minus stands before the digits.
+    /// Returns whether the number has a minus sign.
     pub(crate) fn is_negative(&self) -> bool
         ensures { result ≡ self.now.negative }
     {
         self.negative
     }
 
-    /// Returns whether both numbers have a minus, or neither has one.
+    /// Returns whether both numbers have a minus sign, or neither has one.
     pub(crate) fn has_sign_of(&self, other: &Number<'_>) -> bool
         ensures { result ≡ beq self.now.negative other.now.negative }
     {
         self.negative == other.negative
     }
 
-    /// Returns the tens that the digits are multiplied by, and those that divide them.
+    /// Returns the power of ten by which the digits are multiplied.
     pub(crate) fn tens(&self) -> Tens
         ensures up { result.up ≡ self.now.up }
         ensures down { result.down ≡ self.now.down }
@@ -79,15 +80,16 @@ impl<'a> Number<'a> {
         self.tens
     }
 
-    /// Returns the number that the digits write, if it has at most 18 digits after its leading
-    /// zeros.
+    /// Returns the digits, read as an integer, or `None` if there are more than 18, not counting
+    /// leading zeros.
     pub(crate) fn coefficient(&self) -> Option<u64>
         ensures { SomeIff result (self.now.coefficient < 10 ^ 18) self.now.coefficient }
     {
         value_of(self.numeral.whole(), self.numeral.fraction())
     }
 
-    /// Returns the digits as a number, times the tens that multiply them and `more` tens.
+    /// Returns the digits, read as an integer, times `10^(up + more)`. `up` is the exponent of the
+    /// number's own multiplying power of ten.
     pub(crate) fn times_tens(&self, more: u128) -> Term<'a>
         requires { more < 10 ^ 32 }
         ensures { result ≡ self.now.coefficient * 10 ^ (self.now.up + more) }

@@ -10,7 +10,7 @@ use crate::sums::compare_with_sum;
 use crate::terms::Term;
 use json_decimals::error::NumberError;
 
-/// Returns whether a number is below another.
+/// Returns whether `x` is less than `y`.
 fn is_below(x: &Term<'_>, y: &Term<'_>) -> bool
     ensures { result ≡ nat_lt x.now y.now }
 {
@@ -18,7 +18,7 @@ fn is_below(x: &Term<'_>, y: &Term<'_>) -> bool
     compare_with_sum(x, y, &none, 1, 1, 0).is_lt()
 }
 
-/// Returns whether the sum of two numbers is above 0.
+/// Returns whether the sum of `x` and `y` is greater than 0.
 fn have_sum(x: &Term<'_>, y: &Term<'_>) -> bool
     ensures { result ≡ nat_lt 0 (x.now + y.now) }
 {
@@ -26,7 +26,8 @@ fn have_sum(x: &Term<'_>, y: &Term<'_>) -> bool
     compare_with_sum(&none, x, y, 0, 1, 1).is_lt()
 }
 
-/// Returns whether a number of this sign and size is less than another.
+/// Returns whether the number of sign `negative` and absolute value `x` is less than the number of
+/// sign `other_negative` and absolute value `y`.
 fn is_signed_less(negative: bool, other_negative: bool, x: &Term<'_>, y: &Term<'_>) -> bool
     ensures { result ≡ signed_less negative other_negative x.now y.now }
 {
@@ -48,10 +49,9 @@ fn is_number_less(left: &Number<'_>, right: &Number<'_>) -> bool
     is_signed_less(left.is_negative(), right.is_negative(), &first, &second)
 }
 
-/// Returns whether the number that a text writes is less than that of another.
+/// Returns whether the number that `left` writes is less than the number that `right` writes.
 ///
-/// Fails with `WideExponent` if the exponent of one has more than 30 digits, leading zeros not
-/// counted.
+/// Fails with `WideExponent` if an exponent has more than 30 digits, not counting leading zeros.
 pub fn is_less(left: &str, right: &str) -> Result<bool, NumberError>
     ensures less { IfOk result
         (λ b. b ≡ decimal_less (decimal_of left.now) (decimal_of right.now)) }

@@ -1,4 +1,4 @@
-//! Comparing a large number with a sum, digit by digit from the first.
+//! Comparison of a large number with a sum, digit by digit from the highest.
 
 ghost use Rattle.std.specs.Ordering.{nat_cmp};
 ghost use Rattle.std.specs.Prelude.{◌≡◌, ℕ, ◌+◌, ◌-◌, ◌*◌, ◌/◌, ◌^◌, ◌≤◌, ◌&&◌, ◌||◌, nat_le};
@@ -6,8 +6,8 @@ ghost use Rattle.std.specs.Prelude.{◌≡◌, ℕ, ◌+◌, ◌-◌, ◌*◌, �
 use crate::terms::Term;
 use std::cmp::Ordering;
 
-/// Returns a place at or below this one. All digits from it up to this one are zeros in all three
-/// numbers.
+/// Returns a digit position, at most `place`, such that all three numbers have only zeros from it
+/// up to `place`. The comparison skips these digits. Position 0 is the last digit.
 fn next_place(x: &Term<'_>, y: &Term<'_>, z: &Term<'_>, place: u128) -> u128
     ensures within { result ≤ place }
     ensures first { x.now / 10 ^ result ≡ x.now / 10 ^ place * 10 ^ (place - result) }
@@ -19,10 +19,10 @@ fn next_place(x: &Term<'_>, y: &Term<'_>, z: &Term<'_>, place: u128) -> u128
         .max(z.zeros_from(place))
 }
 
-/// Compares `by_x` times `x` with the sum of `by_y` times `y` and `by_z` times `z`.
+/// Compares `by_x * x` with `by_y * y + by_z * z`.
 ///
-/// Reads digits from the first place on, and ends as soon as the remaining ones can't change the
-/// result.
+/// Reads the digits from the highest one on, and stops as soon as the remaining digits can't change
+/// the result. Long runs of zeros are skipped.
 pub(crate) fn compare_with_sum(
     x: &Term<'_>,
     y: &Term<'_>,
@@ -58,22 +58,22 @@ pub(crate) fn compare_with_sum(
     over.cmp(&under)
 }
 
-/// Returns whether `x` is at most the sum of `y` and `by_z` times `z`.
+/// Returns whether `x` is at most `y + by_z * z`.
 fn is_at_most_sum(x: &Term<'_>, y: &Term<'_>, z: &Term<'_>, by_z: u64) -> bool
     ensures { result ≡ nat_le x.now (y.now + by_z * z.now) }
 {
     compare_with_sum(x, y, z, 1, 1, by_z).is_le()
 }
 
-/// Returns whether the sum of `x` and `y` is at most `by_z` times `z`.
+/// Returns whether `x + y` is at most `by_z * z`.
 pub(crate) fn is_sum_at_most(x: &Term<'_>, y: &Term<'_>, z: &Term<'_>, by_z: u64) -> bool
     ensures { result ≡ nat_le (x.now + y.now) (by_z * z.now) }
 {
     compare_with_sum(z, x, y, by_z, 1, 1).is_ge()
 }
 
-/// Returns whether `x` is at most the sum of `y` and `times` times `beside_x`, and `y` at most the
-/// sum of `x` and `times` times `beside_y`.
+/// Returns whether `x` is at most `y + times * beside_x`, and `y` is at most `x + times *
+/// beside_y`.
 pub(crate) fn is_each_at_most(
     x: &Term<'_>,
     y: &Term<'_>,
@@ -87,8 +87,7 @@ pub(crate) fn is_each_at_most(
     is_at_most_sum(x, y, beside_x, times) && is_at_most_sum(y, x, beside_y, times)
 }
 
-/// Returns whether the sum of `x` and `y` is at most `times` times `v`, or at most `times` times
-/// `w`.
+/// Returns whether `x + y` is at most `times * v`, or at most `times * w`.
 pub(crate) fn is_sum_at_most_either(
     x: &Term<'_>,
     y: &Term<'_>,

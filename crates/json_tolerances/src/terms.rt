@@ -9,7 +9,8 @@ ghost use Rattle.fast_float.specs.Text.{digits_of};
 use fast_float::Numeral;
 use std::marker::Model;
 
-/// The number that some digits write, times a power of ten.
+/// A natural number: digits, read as an integer, times a power of ten. The digits are borrowed, and
+/// those of `fraction` follow those of `whole`.
 #[derive(Drop)]
 pub(crate) struct Term<'a> {
     whole: &'a [u8],
@@ -28,7 +29,7 @@ impl<'a> Model for Term<'a> {
     ghost invariant = { λ t. AllDigits 10 (t.whole.now ++ t.fraction.now) × (t.tens < 10 ^ 33) };
 }
 
-/// Returns the byte at a place in two slices, one after the other.
+/// Returns the byte at index `i` of two slices, one after the other.
 fn byte_at(front: &[u8], back: &[u8], i: usize) -> u8
     requires { i < length (front.now ++ back.now) }
     ensures { result ≡ slice_index (front.now ++ back.now) i }
@@ -40,8 +41,8 @@ fn byte_at(front: &[u8], back: &[u8], i: usize) -> u8
     }
 }
 
-/// Returns the number that digits in two slices write, one slice after the other, if it has at
-/// most 18 digits after its leading zeros.
+/// Returns the integer that the digits in two slices write, one slice after the other. Returns
+/// `None` if it has more than 18 digits, not counting leading zeros.
 pub(crate) fn value_of(front: &[u8], back: &[u8]) -> Option<u64>
     requires front { AllDigits 10 front.now }
     requires back { AllDigits 10 back.now }
@@ -59,7 +60,7 @@ pub(crate) fn value_of(front: &[u8], back: &[u8]) -> Option<u64>
 }
 
 impl<'a> Term<'a> {
-    /// Returns the number that the digits of a numeral write, times a power of ten.
+    /// Returns the digits of a numeral, read as an integer, times `10^tens`.
     pub(crate) fn of(numeral: &Numeral<'a>, tens: u128) -> Term<'a>
         requires { tens < 10 ^ 33 }
         ensures { result ≡ digits_of numeral.now * 10 ^ tens }
@@ -71,7 +72,7 @@ impl<'a> Term<'a> {
         }
     }
 
-    /// Returns a power of ten.
+    /// Returns `10^tens`.
     pub(crate) fn ten(tens: u128) -> Term<'static>
         requires { tens < 10 ^ 33 }
         ensures { result ≡ 10 ^ tens }
@@ -83,7 +84,7 @@ impl<'a> Term<'a> {
         }
     }
 
-    /// Returns a place above all digits that are not 0.
+    /// Returns a digit position above all digits that are not 0. Position 0 is the last digit.
     pub(crate) fn top(&self) -> u128
         ensures above { self.now < 10 ^ result }
         ensures bound { result < 10 ^ 34 }
@@ -91,7 +92,8 @@ impl<'a> Term<'a> {
         (self.whole.len() + self.fraction.len()) as u128 + self.tens
     }
 
-    /// Returns a place at or below this one. All digits from it up to this one are zeros.
+    /// Returns a digit position, at most `place`, such that all digits from it up to `place` are
+    /// zeros. Position 0 is the last digit.
     pub(crate) fn zeros_from(&self, place: u128) -> u128
         ensures within { result ≤ place }
         ensures zeros { (p : ℕ) → result ≤ p → p ≤ place
@@ -105,7 +107,8 @@ impl<'a> Term<'a> {
         }
     }
 
-    /// Returns the digit at a place. The last digit is at place 0.
+    /// Returns the digit at a position. Position 0 is the last digit, and digits above the first
+    /// are 0.
     pub(crate) fn digit(&self, place: u128) -> u128
         ensures { result ≡ self.now / 10 ^ place % 10 }
     {
