@@ -107,7 +107,7 @@ fn row_of<'a>(bytes: &'a [u8], buffers: &'a [Bytes<'a>]) -> Option<&'a [u8]>
     long_row(&view, &bytes[4..8], buffers)
 }
 
-/// Returns whether row `i` is present. All rows are if there is no bitmap.
+/// Returns whether row `i` is present. If `present` is `None`, all rows are present.
 #[inline(always)]
 fn is_row(present: &Option<Bitmap>, i: usize) -> bool
     ensures { result ≡ is_present present.now i }

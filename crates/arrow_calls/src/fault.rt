@@ -13,9 +13,10 @@ use polars_arrays_bits::error::ComputeError;
 pub enum Fault {
     /// The parts do not describe an array.
     Parts,
-    /// The two arrays differ in type or in length, or the column's type lacks a given number.
+    /// The two arrays differ in type or in length, or a given number is out of the range of the
+    /// column's type.
     Types,
-    /// The caller's memory is too small for the result, or does not have its length.
+    /// The caller's memory is too small for the result, or has another length than the result.
     Room,
     /// An allocation failed.
     Memory,

@@ -13,8 +13,8 @@ use polars_arrays_flat::validity::{has_bits, null_count};
 use polars_arrays_numbers::native_type::NativeType;
 use std::marker::Model;
 
-/// A column that borrows its numbers, and owns its validity, if it has one. In contracts its value
-/// is that of an array that does not own its numbers.
+/// A column of numbers. It borrows the numbers, and owns its validity, if it has one. In contracts,
+/// its value is that of an array that does not own its numbers.
 #[derive(Drop)]
 pub struct Column<'a, T: Copy> {
     values: &'a [T],
@@ -63,8 +63,8 @@ impl<'a, T: NativeType> Column<'a, T> {
         self.values
     }
 
-    /// Returns the validity, or `None` if it has none. The validity has a bit for each row, 0 if
-    /// the row is null.
+    /// Returns the validity, or `None` if the column has none. The validity has a bit for each row,
+    /// 0 if the row is null.
     pub fn validity(&self) -> Option<&Bitmap>
         ensures validity { option_copied result ≡ self.now.validity }
         ensures bits { HasBits (length self.now.values) self.now.validity }

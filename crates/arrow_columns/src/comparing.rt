@@ -62,7 +62,7 @@ fn join<T: NativeType, E: RowComparison<T>>(
     join_masks(alloc, relation, &pairs, left.mask(), right.mask())
 }
 
-/// Sets the bits of all rows to 0 that are null by `mask`. Changes nothing if there is no mask.
+/// Sets the bit of each row that is null by `mask` to 0. Changes nothing if there is no mask.
 pub fn keep_present(bits: &mut MutableBitmap, mask: Option<BitMask<'_>>)
     requires { HasBits (length bits.old) mask }
     ensures { bits.new ≡ under mask.entry bits.old }

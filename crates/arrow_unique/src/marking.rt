@@ -36,7 +36,7 @@ fn mark_number<T: UniqueNumber>(words: &mut [u64], span: &Span<T>, number: T)
     set_bit(words, span.slot(number));
 }
 
-// Sets the bits of all numbers in the slice.
+// Sets the bit of each number of `numbers`.
 #[inline(always)]
 fn mark_all<T: UniqueNumber>(words: &mut [u64], span: &Span<T>, numbers: &[T])
     requires fit { HaveSlots (T.value span.now.least) span.now.count

@@ -21,7 +21,7 @@ pub struct Sort {
     /// Chances in 32 that a row is null.
     pub nulls: u64,
     /// Chances in 32 that a present row is true. Bits that are no rows, and the values of nulls,
-    /// are true in the other cases.
+    /// are true with the other `32 - trues` chances.
     pub trues: u64,
 }
 

@@ -50,8 +50,8 @@ pub const ALL_NULL: Sort = Sort {
     trues: 16,
 };
 
-/// Returns the bit offset of the validity of an array whose values begin at bit `values`. Each
-/// offset of values has another offset of the validity.
+/// Returns the bit offset of the validity of an array whose values begin at bit `values`. Different
+/// offsets of the values give different offsets of the validity.
 pub fn validity_offset(values: usize) -> usize {
     values.saturating_mul(7).saturating_add(3) % OFFSETS
 }

@@ -1,5 +1,4 @@
-//! Counts bits of each row of a part, at the type of its kind, and writes the counts. Fails with
-//! `NotServed` if the part has no numbers of 8 to 64 bits, and as `count_numbers` does.
+//! Counts of the bits of each number of a column.
 
 ghost use Rattle.std.specs.Prelude.{◌≡◌, ◌≢◌, length, pos, IfErr, OnErr, OnOk};
 ghost use Rattle.arrow_calls.specs.Operations.{counting_number};
@@ -15,7 +14,8 @@ use arrow_columns::counting::Counting;
 use arrow_parts::part::{Part, PartKind};
 use std::alloc::Global;
 
-// Writes the counts of a part of numbers.
+// Counts bits of each row of a part, at the type of its kind, and writes the counts. Fails with
+// `NotServed` if the part has no numbers of 8 to 64 bits, and as `count_numbers` does.
 fn count_part(
     alloc: Global,
     counting: Counting,

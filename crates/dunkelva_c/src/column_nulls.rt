@@ -1,4 +1,4 @@
-//! Null rows of columns: arrays without child arrays.
+//! Null rows of columns of numbers, of truth values, and of nulls alone.
 
 ghost use Rattle.std.specs.Prelude.{◌≡◌, ◌≢◌, length, pos, IfErr, IfOk, OnErr, OnOk};
 ghost use Rattle.arrow_calls.specs.Statuses.{IsTrueOf, IsTrueStatus};

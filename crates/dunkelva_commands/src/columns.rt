@@ -56,7 +56,8 @@ fn other_delimiter<N: ByteRows>(names: &N, delimiter: u8) -> Option<char> {
     None
 }
 
-/// Asks whether `other` is the delimiter, as the text of a hint.
+/// Returns a hint that asks whether `other` is the delimiter of a file that was read with
+/// `delimiter`. Returns `None` if an allocation fails.
 fn question_about_delimiter(alloc: Global, other: char, delimiter: u8) -> Option<String> {
     if delimiter == b',' {
         return format!(in alloc; "is {other:?} the --delimiter?").ok();

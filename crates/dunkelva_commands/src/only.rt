@@ -1,6 +1,6 @@
 //! Warnings about paths in `--only` at which no document has a part.
 //!
-//! If all paths are of this sort, no difference is found, whatever the documents are. A misspelt
+//! If `--only` has no other paths, no difference is found, whatever the documents are. A misspelt
 //! path is therefore reported on standard error after the comparison. For this the files are read
 //! again.
 

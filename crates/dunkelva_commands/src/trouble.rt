@@ -70,8 +70,8 @@ fn is_empty(rt: &HostRuntime, file: &str) -> bool {
     open_again(rt, file).is_some_and(|source| source.size() == Some(0))
 }
 
-/// Returns the error for a file that has no column of the name of a key. `key` is the index of the
-/// key. A hint says what is wrong with the file, or lists its columns.
+/// Returns the error for a file that lacks a key column. `key` is the index of the key. A hint says
+/// what is wrong with the file, or lists its columns.
 fn no_key(rt: &HostRuntime, file: &str, key: usize, options: &Options<'_>) -> Error {
     let Some(name) = options.choice.keys.get(key) else {
         return trouble!("a key column is missing");

@@ -11,7 +11,7 @@ const ROOM: usize = 2000;
 /// The greatest length of a file name in an error, in bytes. A longer path can't be opened.
 const NAME_ROOM: usize = 4096;
 
-/// The number of fields of a record, and that of the first record.
+/// The number of fields that a record has, and the number that it should have.
 #[derive(Clone, Copy)]
 pub struct Lengths {
     /// The number of fields of the first record. All records should have as many.

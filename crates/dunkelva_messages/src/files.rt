@@ -38,8 +38,8 @@ impl Read for Source {
     }
 }
 
-/// Opens a file. `is_beside` is true if the other input is standard input. If standard input is
-/// closed, the file gets its descriptor, which is an error then.
+/// Opens a file. `is_beside` is true if the other input is standard input. If the file gets
+/// descriptor 0 then, standard input is closed, and the call fails.
 fn open_file(rt: &HostRuntime, name: &str, is_beside: bool) -> Result<fs::File> {
     match fs::open(rt, name) {
         Ok(file) => {

@@ -1,9 +1,9 @@
 //! Similarity of names, for hints about misspelt ones.
 
-/// The most bytes by which similar names differ. All of them are adjacent.
+/// The greatest number of adjacent bytes by which similar names differ.
 const MOST_OTHER: usize = 2;
 
-/// The fewest bytes that similar names have in common.
+/// The least number of bytes that similar names have in common.
 const LEAST_COMMON: usize = 2;
 
 /// Returns a byte in lower case. An underscore becomes a hyphen.
@@ -56,8 +56,8 @@ pub fn differ_by_case(one: &[u8], other: &[u8]) -> bool {
     one.len() == other.len() && common_start(one, other) == one.len()
 }
 
-/// Returns whether two names are similar: they differ only in up to two adjacent bytes, and have at
-/// least two bytes in common. Case does not count.
+/// Returns whether two names are similar: they differ by at most two adjacent bytes, which are
+/// replaced, added or left out, and at least two other bytes are equal. Case does not count.
 pub fn are_near(one: &[u8], other: &[u8]) -> bool {
     let start = common_start(one, other);
     let most = one.len().min(other.len()).saturating_sub(start);

@@ -218,7 +218,7 @@ fn is_known(name: &str) -> bool {
     name == "left" || name == "right"
 }
 
-/// Returns the name of an option that is nearly `name`, or `None` if there is none. A name that
+/// Returns the name of an option that is similar to `name`, or `None` if there is none. A name that
 /// differs only by case, or by underscores for hyphens, is preferred.
 pub(crate) fn option_near(name: &str) -> Option<&'static str> {
     let mut near = None;
@@ -425,9 +425,8 @@ pub fn joined<'a>(
 }
 
 /// Returns the names of the two input files. `first` and `second` are the names on the command
-/// line. If both are missing, the config file has to set both names. If only `first` is given, the
-/// config file may set the other name. Fails if there are not exactly two names, except that two
-/// names on the command line override those in the file.
+/// line. Two names there override the names in the config file. Otherwise the file has to set both
+/// names, or the command line and the file have to give one name each. Fails in all other cases.
 pub fn named_files<'a>(
     first: Option<&'a str>,
     second: Option<&'a str>,

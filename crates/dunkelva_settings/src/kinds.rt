@@ -42,8 +42,9 @@ fn names_table(name: &str) -> bool {
     has_extension(name, ".csv") || has_extension(name, ".tsv")
 }
 
-/// Fails if the file `documents` has JSON documents by its name, and the file `other` does not but
-/// is a CSV file by its name, or has a known format that is not UTF-8 text.
+/// Fails if the file `documents` has JSON documents by its name, and the file `other` is a CSV file
+/// by its name, or begins like a known format that is not UTF-8 text. If `other` has JSON documents
+/// by its name too, it is accepted without being read.
 fn refuse_beside(rt: &HostRuntime, documents: &str, other: &str) -> Result<()> {
     if !names_documents(documents) || names_documents(other) {
         return Ok(());
@@ -72,9 +73,10 @@ pub fn refuse_two_formats(
     refuse_beside(rt, right, left)
 }
 
-/// Returns whether the two files have documents, instead of tables. `--input` decides, or else the
-/// names of the files. Standard input has the kind of the other file. Fails if the names do not
-/// tell the kind, or contradict each other.
+/// Returns whether the two files have documents instead of tables. `--input` decides. Without it,
+/// the file names decide: both have to end with `.ndjson` or `.jsonl`, or neither. Standard input
+/// has the kind of the other file. Fails if a name ends with `.json`, or if only one of two file
+/// names says that the file has documents.
 pub fn hold_documents(matches: &ArgMatches<'_>, left: &str, right: &str) -> Result<bool> {
     if let Some(input) = matches.get_str("input") {
         return Ok(input == "ndjson");
@@ -97,7 +99,8 @@ pub fn hold_documents(matches: &ArgMatches<'_>, left: &str, right: &str) -> Resu
 }
 
 /// Returns the name of the first given option that is only for files of this kind, or `None` if
-/// there is none. Examines either the options that take a value, or those that do not.
+/// there is none. If `takes_value` is true, only options that take a value are examined, and else
+/// only the others.
 fn given_of(matches: &ArgMatches<'_>, kind: GoesWith, takes_value: bool) -> Option<&'static str> {
     for option in options() {
         let is_given = match option.takes {

@@ -56,8 +56,8 @@ fn push_patterns(
     Ok(())
 }
 
-/// Returns the number before a percent sign, or `None` if the text is not a number without an
-/// exponent and a percent sign.
+/// Returns the number before a percent sign, such as `2.5` for `2.5%`. Returns `None` for other
+/// texts, and if the number has an exponent or can't be a bound.
 fn without_percent(word: &str) -> Option<&str> {
     let number = word.strip_suffix('%')?;
     let is_plain = !number.contains(['e', 'E']) && Bound::read(number).is_ok();
@@ -133,8 +133,8 @@ pub(crate) fn margin_of(option: &str, word: &str) -> Result<Margin> {
     }
 }
 
-/// Parses a tolerance for documents: a path, an equals sign, and a bound. The last equals sign
-/// counts. Fails if there is none, or if the path or the bound is invalid.
+/// Parses a tolerance for documents, such as `items[].price=0.01`. The bound begins after the last
+/// equals sign. Fails if there is none, or if the path or the bound is invalid.
 fn tolerance_of(alloc: Global, option: &str, word: &str) -> Result<Tolerance> {
     let Some((path, number)) = word.rsplit_once('=') else {
         let takes = "a path and a bound such as items[].price=0.01";

@@ -21,8 +21,8 @@ fn refuse_key(option: &str, column: &str, keys: &[&[u8]]) -> Result<()> {
     Ok(())
 }
 
-/// Parses a tolerance for a column: a name, an equals sign, and a bound. The last equals sign
-/// counts. Fails if there is none, if the column is a key, or if the bound is invalid.
+/// Parses a tolerance for a column, such as `amount=0.01`. The bound begins after the last equals
+/// sign. Fails if there is none, if the column is a key, or if the bound is invalid.
 fn tolerance_of<'a>(option: &str, word: &'a str, keys: &[&[u8]]) -> Result<Tolerance<'a>> {
     let Some((column, number)) = word.rsplit_once('=') else {
         let takes = "a column and a bound such as amount=0.01";

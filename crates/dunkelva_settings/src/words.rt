@@ -120,8 +120,8 @@ fn delimiter_of(text: &str) -> Result<u8> {
     Ok(byte)
 }
 
-/// Returns the options for reading two CSV files. Fails if `--delimiter` is invalid, or if the file
-/// names tell two delimiters.
+/// Returns the options for reading two CSV files. Fails if `--delimiter` is invalid. Fails without
+/// it if only one of two file names ends with `.tsv`.
 pub fn csv_options(matches: &ArgMatches<'_>, left: &str, right: &str) -> Result<CsvOptions> {
     let delimiter = match matches.get_str("delimiter") {
         Some(text) => delimiter_of(text)?,
@@ -153,8 +153,8 @@ pub enum Target<'a> {
     Output,
     /// Standard output, as Markdown.
     Markdown,
-    /// Standard output, in aligned columns, as wide as a terminal of this width. The flag is `true`
-    /// if there are colours.
+    /// Standard output, in aligned columns. The number is the greatest width of a line, and the
+    /// flag is `true` if there are colours.
     Aligned(usize, bool),
     /// The file of this name, as an HTML page.
     Page(&'a str),
@@ -235,8 +235,8 @@ fn asks_no_color(rt: &HostRuntime) -> bool {
     }
 }
 
-/// Returns whether the report has colours. By default it has on a terminal, unless `NO_COLOR` is
-/// set.
+/// Returns whether the report has colours, as `--color` says. By default it has colours on a
+/// terminal, unless `NO_COLOR` is set.
 pub fn is_colored(rt: &HostRuntime, matches: &ArgMatches<'_>) -> bool {
     match matches.get_str("color") {
         Some("always") => true,

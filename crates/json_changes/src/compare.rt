@@ -48,8 +48,8 @@ fn push_items(
     Ok(())
 }
 
-/// Appends the change of `added`, a member of the right object, if the left object has no member of
-/// the name, that is, if `found` is `None`.
+/// Appends the change of `added`, a member of the right object, if `found` is `None`. `found` is
+/// the value that the left object has at the name of `added`.
 fn push_added_member(
     alloc: Global,
     rules: &Rules,

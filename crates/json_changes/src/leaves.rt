@@ -38,7 +38,8 @@ fn are_same_numbers(alloc: Global, left: &str, right: &str) -> Result<bool, Numb
     Ok(first.as_slice() == second.as_slice())
 }
 
-/// Returns whether two values are equal. An array or object is not equal to any value here.
+/// Returns whether two values are equal. They are not both arrays and not both objects, so an array
+/// or an object is not equal to the other value.
 fn are_same(alloc: Global, left: &Value<'_>, right: &Value<'_>) -> Result<bool, NumberError>
     ensures same { IfOk result
         (λ b. b ≡ is_same_leaf (value_view left.now) (value_view right.now)) }

@@ -42,7 +42,7 @@ pub struct Rules {
     pub tolerances: Vec<Tolerance>,
 }
 
-/// Returns whether one of the patterns names the part at a path, or a part around it.
+/// Returns whether one of the patterns names the part at a path, or a part that contains it.
 fn is_named(patterns: &[Pattern], path: &[Step]) -> bool
     ensures { result ≡ is_named (map pattern_view patterns.now) (trail_view path.now) }
 {
@@ -52,7 +52,8 @@ fn is_named(patterns: &[Pattern], path: &[Step]) -> bool
     pattern.begins(path) || is_named(rest, path)
 }
 
-/// Returns whether one of the patterns names a part inside the part at a path. It need not exist.
+/// Returns whether one of the patterns names a part inside the part at a path. The inner part need
+/// not exist.
 fn has_named(patterns: &[Pattern], path: &[Step]) -> bool
     ensures { result ≡ has_named (map pattern_view patterns.now) (trail_view path.now) }
 {
@@ -62,8 +63,8 @@ fn has_named(patterns: &[Pattern], path: &[Step]) -> bool
     pattern.goes_on_in(path) || has_named(rest, path)
 }
 
-/// Returns whether the patterns of `only` select the part at a path: they name it, a part around
-/// it, or a part inside it. An empty list selects all parts.
+/// Returns whether the patterns of `only` select the part at a path: they name it, a part that
+/// contains it, or a part inside it. An empty list selects all parts.
 fn is_asked_for(patterns: &[Pattern], path: &[Step]) -> bool
     ensures { result ≡ is_asked_for (map pattern_view patterns.now) (trail_view path.now) }
 {

@@ -1,4 +1,5 @@
-//! Laws of decimals and of their texts.
+//! Laws of decimals and of their texts. The function does nothing at run time; its contract states
+//! the laws.
 
 ghost use Rattle.json_decimals.specs.Laws.{NormalFormsTell, NormalIsEqual, NormalTextsTell};
 ghost use Rattle.json_decimals.specs.Laws.{OneNormalForm, PassesOn, TextReadsBack};

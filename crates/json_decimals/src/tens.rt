@@ -14,9 +14,9 @@ use std::alloc::AllocError;
 /// multiplied.
 #[derive(Clone, Copy, Drop)]
 pub struct Tens {
-    /// The exponent of the power that multiplies.
+    /// The exponent of the multiplying power.
     pub up: u128,
-    /// The exponent of the power that divides.
+    /// The exponent of the dividing power.
     pub down: u128,
 }
 

@@ -1,11 +1,13 @@
-//! Laws of normal forms and of their texts.
+//! Laws of normal forms and of their texts. The function does nothing at run time; its contract
+//! states the laws.
 
 ghost use Rattle.json_normal.specs.Laws.{MembersInAnyOrder, NormalFormsTell, NormalTextsTell};
 ghost use Rattle.json_normal.specs.Laws.{NumbersAreReadWhole, TextReadsBack};
 
-/// States that two values are equal if and only if they have the same normal form, and if and only
-/// if they have the same normal text. The normal text of a value of at most `max_depth` levels is
-/// JSON of the value's normal form.
+/// States the laws of normal forms of values whose objects have no name twice. Two values are equal
+/// if and only if they have the same normal form, and if and only if they have the same normal
+/// text. The normal text of a value of at most `max_depth` levels is JSON of the value's normal
+/// form.
 pub fn normal_laws()
     ensures members_in_any_order { MembersInAnyOrder }
     ensures normal_forms_tell { NormalFormsTell }

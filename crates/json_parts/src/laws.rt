@@ -1,4 +1,4 @@
-//! Laws of parts.
+//! Laws of parts. The function does nothing at run time; its contract states the laws.
 
 ghost use Rattle.json_parts.specs.Laws.{PartsHaveNumbers};
 

@@ -1,4 +1,4 @@
-//! Laws of the texts of paths.
+//! Laws of the texts of paths. The function does nothing at run time; its contract states the laws.
 
 ghost use Rattle.json_paths.specs.Laws.{EachHasAText, OnePath, OnePattern};
 

@@ -42,7 +42,8 @@ fn is_plain(byte: u8) -> bool
     !matches!(byte, b'.' | b'[' | b']' | b'"')
 }
 
-/// Returns the index after the bytes from `start` on that can be in a name without quotes.
+/// Returns the index of the first byte from `start` on that can't be in a name without quotes, or
+/// the length of the text if there is none.
 fn plain_end(bytes: &[u8], start: usize) -> usize
     requires { start ≤ length bytes.now }
     ensures { result ≡ start + prefix_len is_plain (drop start bytes.now) }
@@ -54,8 +55,8 @@ fn plain_end(bytes: &[u8], start: usize) -> usize
     end
 }
 
-/// Reads the name without quotes that begins at byte `start`. A dot before it was read already.
-/// Fails with `Invalid` if the name is empty.
+/// Reads the name without quotes that begins at byte `start`. The dot before it was read already,
+/// or is missing. Fails with `Invalid` if the name is empty.
 fn plain_name(alloc: Global, text: &str, start: usize) -> Result<Found, PathError>
     requires starts { IsCharBoundary text.now start }
     requires unquoted { slice_index text.now start ≢ quote }

@@ -34,8 +34,8 @@ impl PatternStep {
     }
 }
 
-/// Returns whether the steps of a pattern name the part at a path, or a part around it: they fit
-/// the beginning of the path.
+/// Returns whether the steps of a pattern name the part at a path, or a part that contains it: the
+/// steps fit the beginning of the path.
 fn do_begin(steps: &[PatternStep], path: &[Step]) -> bool
     ensures { result ≡ begins (map pattern_step_view steps.now) (map step_view path.now) }
 {
@@ -63,8 +63,8 @@ fn do_go_on(steps: &[PatternStep], path: &[Step]) -> bool
 }
 
 impl Pattern {
-    /// Returns whether the pattern names the part at a path, or a part around it. For example,
-    /// `a[]` names a part around `a[0].b`.
+    /// Returns whether the pattern names the part at a path, or a part that contains it. For
+    /// example, `a[]` names a part that contains the part at `a[0].b`.
     pub fn begins(&self, path: &[Step]) -> bool
         ensures { result ≡ begins (pattern_view self.now) (map step_view path.now) }
     {

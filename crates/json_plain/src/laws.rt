@@ -1,4 +1,4 @@
-//! Laws of plain JSON texts.
+//! Laws of plain JSON texts. The function does nothing at run time; its contract states the laws.
 
 ghost use Rattle.json_plain.specs.Laws.{HighOnesAreEscaped, LowOnesAreEscaped, ValuesAreKept};
 

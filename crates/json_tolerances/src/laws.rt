@@ -1,4 +1,5 @@
-//! Laws of closeness and of order.
+//! Laws of closeness and of order. The functions do nothing at run time; their contracts state the
+//! laws.
 
 ghost use Rattle.json_tolerances.specs.Laws.{EqualAreClose, IsSymmetric, OnlyEqualWithinZero};
 ghost use Rattle.json_tolerances.specs.OrderLaws.{EqualAreNotLess, LessIsOneWay, LessPassesOn};
