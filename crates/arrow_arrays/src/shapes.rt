@@ -51,14 +51,18 @@ pub struct Size {
     pub rows: usize,
 }
 
-/// An array without its child arrays: a whole array if its kind has no children, and else the
-/// offsets, sizes, keys and validity. `fill` adds the children.
+/// An array without its child arrays, which `fill` adds.
 #[derive(Drop)]
 pub enum Shape {
+    /// An array without children.
     Leaf(AnyArray),
+    /// The offsets and the validity of a list array.
     Lists(ListOffsets, Option<Bitmap>),
+    /// The size and the validity of an array of lists of a fixed size.
     FixedLists(Size, Option<Bitmap>),
+    /// The number of rows and the validity of a struct array.
     Structs(usize, Option<Bitmap>),
+    /// The keys of a dictionary array.
     Entries(DictKeys),
 }
 

@@ -51,7 +51,7 @@ pub fn number_of(whole: Option<i128>) -> Number
 }
 
 /// Returns the number of 128 bits in two's complement whose lower word is `low` and whose upper
-/// word is `high`.
+/// word is `high`. For example, it is -1 if both words are `u64::MAX`.
 pub fn whole_of(low: u64, high: u64) -> i128
     ensures { result ≡ words_number low high }
 {
@@ -60,7 +60,8 @@ pub fn whole_of(low: u64, high: u64) -> i128
     (low + (high << 64)).cast_signed()
 }
 
-/// Converts a number to type `T`, or returns `None` if it is out of the type's range.
+/// Converts a number to type `T`, or returns `None` if it is out of the type's range. For example,
+/// 200 gives `None` for `i8`.
 pub fn narrow<T: UniqueNumber>(whole: i128) -> Option<T>
     ensures number { IfSome result (λ number. T.value number ≡ whole) }
     ensures none { IsNone result → ¬ ((T.low ≤ℤ whole) × (whole ≤ℤ T.high)) }

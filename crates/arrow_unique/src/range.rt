@@ -4,9 +4,9 @@ ghost use Rattle.std.specs.Prelude.{◌≡◌, ◌+◌, ◌<◌, ◌^◌, ◌≤
 ghost use Rattle.std.specs.Prelude.{IfSome, IsNone};
 ghost use Rattle.polars_compute_slots.specs.State.{RangeFits};
 
-/// Returns how many integers there are from `least` to `greatest`, both included. Returns `None` if
-/// `greatest < least`, or if there are more than `usize::MAX - 1` integers, too many for a state of
-/// distinct values.
+/// Returns how many integers there are from `least` to `greatest`, both included. For example,
+/// there are 5 from -2 to 2. Returns `None` if `greatest < least`, or if there are more than
+/// `usize::MAX - 1` integers, too many for a state of distinct values.
 pub fn count_between(least: i128, greatest: i128) -> Option<usize>
     ensures count { IfSome result (λ n. n ≡ unsigned_abs (greatest -ℤ least +ℤ pos 1)) }
     ensures fits { IfSome result (λ _. RangeFits least greatest) }
