@@ -51,7 +51,7 @@ fn compare_parts(alloc: Global, left: &[Part<'_>], right: &[Part<'_>]) -> Result
 /// `comparisons[0]` to the number of leaves that were compared, or to `u64::MAX` if there were
 /// more.
 ///
-/// Fails with `Parts` if the parts of an array make no array, with `Types` if the arrays differ in
+/// Fails with `Parts` if the parts on a side make no array, with `Types` if the arrays differ in
 /// type or in length, with `Room` if `out` has fewer bits than rows or `comparisons` is empty, and
 /// with `Memory` if an allocation fails. Both slices are then unchanged.
 pub fn equal_rows(

@@ -18,8 +18,8 @@ use std::alloc::Global;
 /// the number of leaves that were compared: at most one for each leaf slot of the left array, and
 /// at most `u64::MAX`. Types may be equal though their offsets differ in width.
 ///
-/// Returns 0, or else a status, and both slices are unchanged. The status is 1 if the parts of an
-/// array make no array, 2 if the arrays differ in type or in length, 3 if `out` has fewer bits than
+/// Returns 0, or else a status, and both slices are unchanged. The status is 1 if the parts on a
+/// side make no array, 2 if the arrays differ in type or in length, 3 if `out` has fewer bits than
 /// rows or `comparisons` is empty, and 4 if an allocation fails.
 ///
 /// The contract states this for the parts: the bits (`same`), the number (`count`) and the parts
