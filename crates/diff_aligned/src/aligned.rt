@@ -1,4 +1,4 @@
-//! Reports in aligned columns.
+//! Writes the report of a comparison as a table in aligned columns.
 
 ghost use Rattle.std.specs.Prelude.{◌≡◌, ◌++◌, All, Err, IsSome, OnOk, map};
 ghost use Rattle.std.specs.Str.Lines.{lines};
@@ -19,18 +19,22 @@ use json::Scratch;
 use std::alloc::{AllocError, Global};
 use std::str::from_utf8;
 
-/// The terminal, and the names of the two files.
+/// The width and colours of the terminal, and the names of the two files.
 #[derive(Clone, Copy, Debug)]
 pub struct Sheet<'a> {
-    /// The number of columns of the terminal. With 40 or more, no line is wider than it.
+    /// The width of the terminal in columns. If it is 40 or more, no line is wider.
     pub width: usize,
     /// `true` if the report has colours.
     pub colored: bool,
+    /// The name of the left file, as shown in the report.
     pub left: &'a str,
+    /// The name of the right file, as shown in the report.
     pub right: &'a str,
 }
 
-/// Appends what lines add to the report: texts before the rows, rows, and texts after them.
+/// Reads the JSON lines of a report. Appends the texts before the table to `head`, the rows of the
+/// table to `rows`, and the texts after the table to `tail`. Fails with `NoReport` if one of
+/// `lines` is no line of a report.
 fn push_lines(
     alloc: Global,
     head: &mut Vec<u8>,
@@ -56,7 +60,9 @@ fn push_lines(
     Ok(())
 }
 
-/// Appends what the lines of a text add to the report.
+/// Splits `text` into the JSON lines of a report. Appends the texts before the table to `head`, the
+/// rows of the table to `rows`, and the texts after the table to `tail`. Fails with `NoReport` if a
+/// line of `text` is no line of a report.
 fn push_text(
     alloc: Global,
     head: &mut Vec<u8>,
@@ -80,7 +86,7 @@ fn push_text(
     Ok(())
 }
 
-/// Appends rows as lines, in columns that fit the width of the sheet.
+/// Appends one line of text for each of `rows`, in aligned columns that fit the width of the sheet.
 #[tactic(auto, unfolding(crate::specs::Aligned::row_lines))]
 fn push_rows(
     alloc: Global,
@@ -98,10 +104,10 @@ fn push_rows(
     Ok(())
 }
 
-/// Appends a report in aligned columns. `report` is the report as JSON lines.
+/// Appends a report as a table in aligned columns. `report` is the same report as JSON lines.
 ///
-/// Fails where a line of the report is no JSON, nests deeper than 256 or has no kind. A failure may
-/// leave some text written.
+/// Fails with `NoReport` only if a line of `report` is not JSON, nests deeper than 256 levels or
+/// has no known kind. After an error `out` may have a part of the report.
 pub fn push_aligned(
     alloc: Global,
     out: &mut Vec<u8>,

@@ -1,4 +1,5 @@
-//! The last lines of a report, and the lines of columns that only one file has.
+//! The counts at the end of a report, and the messages about columns that only one file has.
+//! A text is collected as `words`, and `push_paragraph` breaks lines between two of these words.
 
 ghost use Rattle.std.specs.Prelude.{◌≡◌, ◌∷◌, [], ◌++◌, codes, map, OnOk, Some, option_and_then};
 ghost use Rattle.json.specs.Find.{as_object, get};
@@ -17,7 +18,7 @@ use diff_lines::parts::{members_at, number_at, string_at};
 use json::Value;
 use std::alloc::{AllocError, Global};
 
-/// Appends a word of ASCII.
+/// Appends `bytes`, an ASCII text, to `words` as one word.
 fn push_ascii_word(
     alloc: Global,
     words: &mut Vec<Vec<char>>,
@@ -32,7 +33,8 @@ fn push_ascii_word(
     Ok(())
 }
 
-/// Appends a name to `words`.
+/// Appends a name to `words` as one word. It is a JSON string if it has blanks or other special
+/// characters (`push_name`).
 fn push_name_word(alloc: Global, words: &mut Vec<Vec<char>>, name: &str) -> Result<(), AllocError>
     ensures { OnOk result (map (λ v. v.items) words.new.items
         ≡ map (λ v. v.items) words.old.items ++ name_text name.now ∷ []) }
@@ -43,7 +45,7 @@ fn push_name_word(alloc: Global, words: &mut Vec<Vec<char>>, name: &str) -> Resu
     Ok(())
 }
 
-/// Appends a count and the text after it, as one word.
+/// Appends one word: the number that the member `name` of `counts` has, and then `counted`.
 fn push_count(
     alloc: Global,
     words: &mut Vec<Vec<char>>,
@@ -61,7 +63,8 @@ fn push_count(
     Ok(())
 }
 
-/// Appends the words that say how many differences the report leaves out, if it leaves out any.
+/// Appends the word `.. and N more` with `count` for N, or nothing if `count` is `0`. `count` is
+/// the number of differences that the report leaves out.
 fn push_hidden_words(
     alloc: Global,
     words: &mut Vec<Vec<char>>,
@@ -81,7 +84,7 @@ fn push_hidden_words(
     Ok(())
 }
 
-/// Appends the words that say how many rows are of each kind.
+/// Appends the numbers of changed, removed, added and equal rows, each as one word.
 #[tactic(auto, unfolding(crate::specs::Counts::kind_words))]
 fn push_kind_words(
     alloc: Global,
@@ -98,7 +101,7 @@ fn push_kind_words(
     Ok(())
 }
 
-/// Appends a member to `words`, as `name=value`.
+/// Appends a member of an object to `words`, as one word `name=value`.
 fn push_pair_word(
     alloc: Global,
     words: &mut Vec<Vec<char>>,
@@ -115,7 +118,7 @@ fn push_pair_word(
     Ok(())
 }
 
-/// Appends each of the members to `words`, as `name=value`.
+/// Appends each of `members` to `words`, as one word `name=value`.
 fn push_pair_words(
     alloc: Global,
     words: &mut Vec<Vec<char>>,
@@ -131,7 +134,9 @@ fn push_pair_words(
     Ok(())
 }
 
-/// Appends the words that say how many cells differ in each of these columns, if there are any.
+/// Appends `By column:` and a word `name=count` for each column in which cells differ. `members`
+/// has the names of these columns, each with its number of differing cells. Appends nothing if
+/// `members` is empty.
 #[tactic(auto, using(crate::proofs::PartLemmas::no_column_words, crate::proofs::PartLemmas::some_column_words))]
 fn push_columns(
     alloc: Global,
@@ -150,7 +155,8 @@ fn push_columns(
     Ok(())
 }
 
-/// Appends the words that say how many cells differ in each column, if any does.
+/// Appends the number of differing cells for each column in the member `columns` of `counts`.
+/// Appends nothing if this member is no object or is empty.
 fn push_column_words(
     alloc: Global,
     words: &mut Vec<Vec<char>>,
@@ -167,7 +173,7 @@ fn push_column_words(
     }
 }
 
-/// Appends the words that say how many lines of each file are passed over.
+/// Appends the number of skipped lines of the left file and that of the right file.
 fn push_skipped_counts(
     alloc: Global,
     words: &mut Vec<Vec<char>>,
@@ -182,8 +188,8 @@ fn push_skipped_counts(
     Ok(())
 }
 
-/// Appends the words that say how many lines of each file are passed over, if the report has these
-/// counts.
+/// Appends the number of skipped lines of each file. Appends nothing if the member `left_skipped`
+/// of `counts` is no number.
 #[tactic(auto, unfolding(crate::specs::Counts::skipped_words))]
 fn push_skipped_words(
     alloc: Global,
@@ -199,7 +205,9 @@ fn push_skipped_words(
     push_skipped_counts(alloc, words, counts)
 }
 
-/// Appends the lines of the counts.
+/// Appends the lines at the end of a report: the number of differences that are left out, the
+/// numbers of rows of each kind, the differing cells by column, and the skipped lines. `counts` is
+/// the JSON line of the counts. `width` is the width of the terminal.
 #[tactic(auto, unfolding(crate::specs::Counts::counts_lines))]
 pub(crate) fn push_counts(
     alloc: Global,
@@ -226,14 +234,15 @@ pub(crate) fn push_counts(
     Ok(())
 }
 
-/// Returns the name of the only file that has a column.
+/// Returns the name of the file that has a column: `left` if `only_in` is `left`, else `right`.
 fn file_with<'a>(left: &'a str, right: &'a str, only_in: &str) -> &'a str
     ensures { result.now ≡ file_with left.now right.now only_in.now }
 {
     if only_in == "left" { left } else { right }
 }
 
-/// Appends the lines of a column that only one file has.
+/// Appends the message that a column is only in one file. `left` and `right` are the names of the
+/// files. `line` is the JSON line about the column.
 #[tactic(auto, unfolding(crate::specs::Counts::column_lines))]
 pub(crate) fn push_column(
     alloc: Global,

@@ -1,4 +1,4 @@
-//! The texts and rows that the lines of a report become.
+//! Converts a JSON line of a report to the texts and rows of the aligned report.
 
 ghost use Rattle.std.specs.Prelude.{◌≡◌, ◌++◌, Err, IsSome, None, OnOk};
 ghost use Rattle.json.specs.Tree.{HasNumbers};
@@ -16,8 +16,8 @@ use diff_lines::line::{Kind, read_line};
 use json::{Scratch, Value};
 use std::alloc::{AllocError, Global};
 
-/// Appends what a line of a kind adds to the report: texts before the rows, rows, or texts after
-/// them.
+/// Appends the output for one line of a report. A line about a column goes to `head`, a changed,
+/// removed or added row goes to `rows`, and the counts go to `tail`.
 fn push_by_kind(
     alloc: Global,
     head: &mut Vec<u8>,
@@ -44,10 +44,12 @@ fn push_by_kind(
     }
 }
 
-/// Reads a JSON line of a report, and appends what it adds to the head, to the rows or to the tail.
-/// `scratch` is reused from line to line.
+/// Reads a JSON line of a report and appends its output: texts before the table to `head`, rows of
+/// the table to `rows`, texts after the table to `tail`. `scratch` is the memory of the JSON
+/// reader, which all lines share.
 ///
-/// A failure may leave some of it appended.
+/// Fails with `NoReport` only if `line` is no line of a report. After an error a part of the output
+/// may be appended.
 pub(crate) fn push_line(
     alloc: Global,
     head: &mut Vec<u8>,

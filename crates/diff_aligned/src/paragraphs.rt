@@ -1,4 +1,4 @@
-//! Words in lines that are no wider than the terminal.
+//! Breaks texts into lines that are no wider than the terminal.
 
 ghost use Rattle.std.specs.Prelude.{◌≡◌, ◌∷◌, [], ◌++◌, map, OnOk};
 ghost use Rattle.diff_aligned.specs.Paragraphs.{filled, paragraph, texts_bytes};
@@ -7,7 +7,7 @@ use crate::pieces::{cut_of, push_chars};
 use diff_widths::cut::width_of;
 use std::alloc::{AllocError, Global};
 
-/// Appends a line, with its end.
+/// Appends a line and a line feed.
 fn push_text_line(out: &mut Vec<u8>, line: &[char]) -> Result<(), AllocError>
     ensures { OnOk result (out.new.items ≡ out.old.items ++ texts_bytes (line.now ∷ [])) }
 {
@@ -16,7 +16,8 @@ fn push_text_line(out: &mut Vec<u8>, line: &[char]) -> Result<(), AllocError>
     Ok(())
 }
 
-/// Appends words as lines, where earlier words stand in the first line already.
+/// Appends words as lines of at most `width` columns. The first line begins with `first`. A word
+/// that doesn't fit on the line goes on the next one, and a word wider than `width` is cut.
 fn push_filled(
     alloc: Global,
     out: &mut Vec<u8>,
@@ -42,7 +43,8 @@ fn push_filled(
     Ok(())
 }
 
-/// Appends words as lines. The first word stands at the beginning of a line.
+/// Appends words as lines of at most `width` columns, with blanks between the words. A word wider
+/// than `width` is cut. Appends nothing if there are no words.
 pub(crate) fn push_paragraph(
     alloc: Global,
     out: &mut Vec<u8>,

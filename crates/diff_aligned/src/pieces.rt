@@ -1,4 +1,4 @@
-//! The lines of rows, in colours.
+//! Writes the rows of the table as lines of text, with colours.
 
 ghost use Rattle.std.specs.Prelude.{◌≡◌, ◌++◌, codes, encode_utf8_all, IfOk, OnOk};
 ghost use Rattle.diff_widths.specs.Cut.{cut, filler, padded};
@@ -13,7 +13,7 @@ use diff_widths::cut::{push_cut, push_filler};
 use diff_words::colors::{Color, push_color};
 use std::alloc::{AllocError, Global};
 
-/// Appends characters in UTF-8.
+/// Appends characters, encoded as UTF-8.
 pub(crate) fn push_chars(out: &mut Vec<u8>, text: &[char]) -> Result<(), AllocError>
     ensures { OnOk result (out.new.items ≡ out.old.items ++ encode_utf8_all text.now) }
 {
@@ -24,7 +24,7 @@ pub(crate) fn push_chars(out: &mut Vec<u8>, text: &[char]) -> Result<(), AllocEr
     Ok(())
 }
 
-/// Appends characters, in a colour if the report has colours.
+/// Appends characters. If `colored`, they are in `color`, and the plain colour follows.
 #[tactic(auto, unfolding(diff_words::specs::Colors::painted))]
 fn push_painted(
     out: &mut Vec<u8>,
@@ -41,7 +41,8 @@ fn push_painted(
     Ok(())
 }
 
-/// Returns a text unchanged if it fits into its room, and otherwise cut in the middle.
+/// Returns `text` unchanged if it is at most `room` columns wide, and else cut in its middle to
+/// that width.
 pub(crate) fn cut_of(alloc: Global, text: &[char], room: usize) -> Result<Vec<char>, AllocError>
     ensures { IfOk result (λ v. v.items ≡ cut room text.now) }
 {
@@ -50,7 +51,8 @@ pub(crate) fn cut_of(alloc: Global, text: &[char], room: usize) -> Result<Vec<ch
     Ok(out)
 }
 
-/// Appends a text, cut or filled up with spaces.
+/// Appends `text`, cut to `room` columns if it is wider, and else filled up to `room` columns with
+/// blanks.
 #[tactic(auto, unfolding(diff_widths::specs::Cut::padded))]
 fn push_padded(
     alloc: Global,
@@ -66,7 +68,8 @@ fn push_padded(
     Ok(())
 }
 
-/// Returns what stands between the key of a row that changed and its left side.
+/// Returns the text between the key and the left value of a changed row: the blanks after the key,
+/// the part (a column or path), and the blanks after the part.
 fn middle_of(alloc: Global, rooms: &Rooms, row: &Row) -> Result<Vec<char>, AllocError>
     ensures { IfOk result (λ v. v.items
         ≡ filler rooms.now.key (cut rooms.now.key row.now.key.items) ++ codes "  "
@@ -81,7 +84,7 @@ fn middle_of(alloc: Global, rooms: &Rooms, row: &Row) -> Result<Vec<char>, Alloc
     Ok(text)
 }
 
-/// Returns what stands between the two sides of a row that changed.
+/// Returns the blanks that fill `left` up to `room` columns, and an arrow.
 fn arrow_of(alloc: Global, left: &[char], room: usize) -> Result<Vec<char>, AllocError>
     ensures { IfOk result (λ v. v.items ≡ filler room left.now ++ codes " -> ") }
 {
@@ -91,7 +94,8 @@ fn arrow_of(alloc: Global, left: &[char], room: usize) -> Result<Vec<char>, Allo
     Ok(text)
 }
 
-/// Appends the pieces after the key of a row that changed: its part and the two sides.
+/// Appends the end of the line of a changed row, after its key: the part, the left value, an arrow,
+/// the right value and a line feed.
 #[tactic(auto, unfolding(crate::specs::Pieces::change_pieces))]
 fn push_change(
     alloc: Global,
@@ -115,7 +119,7 @@ fn push_change(
     Ok(())
 }
 
-/// Returns the key of a row after its mark.
+/// Returns `mark` and then the key of `row`, cut to the width of keys.
 fn marked_key(alloc: Global, mark: &[u8], rooms: &Rooms, row: &Row) -> Result<Vec<char>, AllocError>
     ensures { IfOk result (λ v. v.items ≡ mark.now ++ cut rooms.now.key row.now.key.items) }
 {
@@ -125,7 +129,8 @@ fn marked_key(alloc: Global, mark: &[u8], rooms: &Rooms, row: &Row) -> Result<Ve
     Ok(text)
 }
 
-/// Appends the line of a row that only one file has, in one colour.
+/// Appends the line of a row that only one file has: the mark, the key and the note, all in one
+/// colour.
 #[tactic(auto, unfolding(crate::specs::Pieces::lone_pieces))]
 fn push_lone(
     alloc: Global,
@@ -149,7 +154,7 @@ fn push_lone(
     Ok(())
 }
 
-/// Appends the line of a row.
+/// Appends the line of text for a row of the table. The mark of the row selects its form.
 pub(crate) fn push_row(
     alloc: Global,
     out: &mut Vec<u8>,

@@ -1,4 +1,5 @@
-//! The number of columns of the terminal that each part of the rows gets.
+//! Divides the width of the terminal among the parts of the rows. All widths are in columns of the
+//! terminal.
 
 ghost use Rattle.std.specs.Prelude.{◌≡◌, ◌<◌, ◌+◌, ◌^◌};
 ghost use Rattle.diff_aligned.specs.Aligned.{rooms_for};
@@ -8,10 +9,10 @@ ghost use Rattle.diff_aligned.specs.Rows.{row_view, rows_view};
 use crate::rows::Row;
 use diff_widths::cut::width_of;
 
-/// The number of columns that the marks of rows and the gaps in them take.
+/// The width of the mark, the gaps and the arrow in the line of a changed row.
 const GAPS: usize = 10;
 
-/// The number of columns that each part of a row gets, or needs.
+/// A width for each part of a row.
 #[derive(Clone, Copy)]
 pub(crate) struct Rooms {
     pub(crate) key: usize,
@@ -21,7 +22,7 @@ pub(crate) struct Rooms {
     pub(crate) note: usize,
 }
 
-/// Returns `rooms`, widened to what one more row needs.
+/// Returns the greater of two widths for each part: that in `rooms`, and that of the part in `row`.
 fn with_row(rooms: Rooms, row: &Row) -> Rooms
     ensures { result ≡ with_row rooms (row_view row.now) }
 {
@@ -34,7 +35,7 @@ fn with_row(rooms: Rooms, row: &Row) -> Rooms
     }
 }
 
-/// Returns for each part of a row its greatest width among these rows, in columns of the terminal.
+/// Returns for each part its greatest width in `rows`.
 fn needed(rows: &[Row]) -> Rooms
     ensures { result ≡ needed no_rooms (rows_view rows.now) }
 {
@@ -51,8 +52,9 @@ fn needed(rows: &[Row]) -> Rooms
     rooms
 }
 
-/// Returns how many of `free` columns one of `n` parts gets: what it needs, but no more than the
-/// greater of an even share and the `left` columns that the other parts do not need.
+/// Returns the width of one of `n` parts that share `free` columns. The part needs `need` columns,
+/// and the other parts leave `left` of the free ones. The part gets what it needs, but at most the
+/// greater of `free / n` and `left`.
 fn share(n: usize, free: usize, need: usize, left: usize) -> usize
     requires { 0 < n }
     ensures { result ≡ share n free need left }
@@ -60,8 +62,8 @@ fn share(n: usize, free: usize, need: usize, left: usize) -> usize
     need.min((free / n).max(left))
 }
 
-/// Returns the columns that each part of the rows gets, if they need `need` and `free` columns are
-/// free.
+/// Divides `free` columns among the parts of the rows. `need` has the greatest width of each part.
+/// Wide parts get less than they need if the columns don't suffice.
 #[tactic(auto, unfolding(crate::specs::Rooms::rooms_in))]
 fn rooms_in(free: usize, need: Rooms) -> Rooms
     requires { free + 10 < 2 ^ 64 }
@@ -82,7 +84,7 @@ fn rooms_in(free: usize, need: Rooms) -> Rooms
     let part = share(3, rest, need.part, sides_leave);
     let rest = rest.saturating_sub(part);
     let left = share(2, rest, need.left, rest.saturating_sub(need.right));
-    // The line of a row with a note has marks and gaps of 4 columns, where GAPS has 10.
+    // The marks and gaps take 4 columns in a line with a note, and `GAPS` columns in other lines.
     Rooms {
         key,
         part,
@@ -92,7 +94,7 @@ fn rooms_in(free: usize, need: Rooms) -> Rooms
     }
 }
 
-/// Returns the columns that each part of some rows gets on a terminal of this width.
+/// Returns the width of each part of `rows` on a terminal of `width` columns.
 pub(crate) fn rooms_for(width: usize, rows: &[Row]) -> Rooms
     ensures { result ≡ rooms_for width (rows_view rows.now) }
 {

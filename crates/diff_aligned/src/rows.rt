@@ -1,4 +1,4 @@
-//! The rows of a report.
+//! The rows of the table that a report in aligned columns has.
 
 ghost use Rattle.std.specs.Prelude.{◌≡◌, ◌++◌, ◌∷◌, [], codes, OnOk, option_and_then};
 ghost use Rattle.json.specs.Find.{as_array, as_object, get};
@@ -15,12 +15,12 @@ use json::Value;
 use std::alloc::{AllocError, Global};
 use std::mem;
 
-/// The mark that a row begins with.
+/// The kind of a row of the table, which is shown at its beginning.
 #[derive(Clone, Copy)]
 pub(crate) enum Mark {
-    /// The first part of a row that changed.
+    /// The first differing cell or path of a changed row. It is shown with the key.
     Changed,
-    /// A further part of the same row.
+    /// A further differing cell or path of a changed row. The key is left empty.
     Again,
     /// A row that only the left file has.
     Removed,
@@ -28,7 +28,8 @@ pub(crate) enum Mark {
     Added,
 }
 
-/// A row of a report. After its key stands either a note, or a part and its two sides.
+/// A row of the table. A removed or added row has a key and a `note`. Other rows have a key, a
+/// `part` (the column or path that differs), and the `left` and `right` values.
 #[derive(Drop)]
 pub(crate) struct Row {
     pub(crate) mark: Mark,
@@ -39,7 +40,8 @@ pub(crate) struct Row {
     pub(crate) note: Vec<char>,
 }
 
-/// Appends the row of a part that differs.
+/// Appends a row of the table for one difference. `name` is the column or path. `change` has the
+/// two values as its members `left` and `right`.
 #[tactic(auto, unfolding(crate::specs::Rows::change_row))]
 fn push_change(
     alloc: Global,
@@ -72,8 +74,9 @@ fn push_change(
     Ok(())
 }
 
-/// Appends a row for each part that differs, the first one with the key. `changes` has a member for
-/// each part, by its name.
+/// Appends a row of the table for each of `changes`, which are members: the name of a column, and
+/// its change. `name` is the key of the changed row, and is shown in the first of the appended
+/// rows.
 fn push_member_rows(
     alloc: Global,
     rows: &mut Vec<Row>,
@@ -95,8 +98,9 @@ fn push_member_rows(
     Ok(())
 }
 
-/// Appends a row for each part that differs, the first one with the key. Each of `changes` has the
-/// path of its part.
+/// Appends a row of the table for each of `changes`, which have the path that differs as their
+/// member `path`. `name` is the key of the changed row, and is shown in the first of the appended
+/// rows.
 fn push_item_rows(
     alloc: Global,
     rows: &mut Vec<Row>,
@@ -118,7 +122,8 @@ fn push_item_rows(
     Ok(())
 }
 
-/// Appends the rows of the changes that are an object.
+/// Appends the rows of the table for a changed row whose `changes` are an object by columns.
+/// Appends nothing if `changes` is no object.
 fn push_rows_in_object(
     alloc: Global,
     rows: &mut Vec<Row>,
@@ -138,7 +143,8 @@ fn push_rows_in_object(
     Ok(())
 }
 
-/// Appends the rows of the changes that are an array.
+/// Appends the rows of the table for a changed row whose `changes` are an array of paths. Appends
+/// nothing if `changes` is no array.
 fn push_rows_in_array(
     alloc: Global,
     rows: &mut Vec<Row>,
@@ -158,7 +164,8 @@ fn push_rows_in_array(
     Ok(())
 }
 
-/// Appends the rows for a row that changed: one for each part that differs.
+/// Appends the rows of the table for a changed row: one for each column or path that differs.
+/// `line` is the JSON line of the changed row.
 #[tactic(auto, unfolding(crate::specs::Rows::changed_rows))]
 pub(crate) fn push_changed(
     alloc: Global,
@@ -174,7 +181,8 @@ pub(crate) fn push_changed(
     Ok(())
 }
 
-/// Appends the row for a row that only this file has, with the line at which that begins.
+/// Appends the row of the table for a row that only `file` has. Its note is the name of the file
+/// and the line at which the row begins there.
 #[tactic(auto, unfolding(crate::specs::Rows::lone_row))]
 pub(crate) fn push_lone(
     alloc: Global,

@@ -1,4 +1,5 @@
-//! Characters as they stand on a terminal.
+//! Converts text to the characters shown on a terminal: control and invisible characters become
+//! escapes.
 
 ghost use Rattle.std.specs.Fmt.{digit_glyph};
 ghost use Rattle.std.specs.List.{flat_map};
@@ -9,8 +10,8 @@ ghost use Rattle.diff_aligned.specs.Shown.{unit_escape};
 use bstr::ByteSlice;
 use std::alloc::AllocError;
 
-/// Returns `true` if a character is shown as an escape: a control character, or one that takes no
-/// column and says how others are shown.
+/// Returns whether a character is shown as an escape, because it is a control character or an
+/// invisible one, such as a zero-width space or a mark of text direction.
 #[tactic(auto, unfolding(crate::specs::Shown::is_hidden))]
 fn is_hidden(c: char) -> bool
     ensures { result ≡ is_hidden c }
@@ -30,7 +31,7 @@ fn is_hidden(c: char) -> bool
         || (0xE0000 <= code && code <= 0xE0FFF)
 }
 
-/// Returns a hexadecimal digit, in small letters.
+/// Returns the hexadecimal digit of `n`, as a lower case letter from 10 on.
 fn hex_digit(n: u32) -> char
     requires { n < 16 }
     ensures { result ≡ digit_glyph false n }
@@ -39,7 +40,7 @@ fn hex_digit(n: u32) -> char
     char::from(if n < 10 { b'0' + n } else { b'a' + (n - 10) })
 }
 
-/// Appends the lowest 16 bits of a number as `\u` and four hexadecimal digits.
+/// Appends `\u` and the lowest 16 bits of `unit` as four hexadecimal digits.
 fn push_unit(out: &mut Vec<char>, unit: u32) -> Result<(), AllocError>
     ensures { OnOk result (out.new.items ≡ out.old.items ++ unit_escape unit) }
 {
@@ -52,7 +53,7 @@ fn push_unit(out: &mut Vec<char>, unit: u32) -> Result<(), AllocError>
     Ok(())
 }
 
-/// Appends a character above U+FFFF as two surrogates.
+/// Appends the two JSON escapes of the surrogate pair of a code point above U+FFFF.
 fn push_surrogates(out: &mut Vec<char>, code: u32) -> Result<(), AllocError>
     requires { 65535 < code }
     ensures { OnOk result (out.new.items ≡ out.old.items ++ surrogates code) }
@@ -63,7 +64,7 @@ fn push_surrogates(out: &mut Vec<char>, code: u32) -> Result<(), AllocError>
     Ok(())
 }
 
-/// Appends a character as JSON escapes it.
+/// Appends the JSON escape of a character: `\uXXXX`, or two of these for a code point above U+FFFF.
 #[tactic(auto, unfolding(crate::specs::Shown::escape))]
 fn push_escape(out: &mut Vec<char>, c: char) -> Result<(), AllocError>
     ensures { OnOk result (out.new.items ≡ out.old.items ++ escape c) }
@@ -76,7 +77,7 @@ fn push_escape(out: &mut Vec<char>, c: char) -> Result<(), AllocError>
     }
 }
 
-/// Appends a character as it is, or its escape.
+/// Appends a character, or its JSON escape if it is hidden (`is_hidden`).
 #[tactic(auto, unfolding(crate::specs::Shown::shown_char))]
 fn push_shown(out: &mut Vec<char>, c: char) -> Result<(), AllocError>
     ensures { OnOk result (out.new.items ≡ out.old.items ++ shown_char c) }
@@ -89,7 +90,7 @@ fn push_shown(out: &mut Vec<char>, c: char) -> Result<(), AllocError>
     Ok(())
 }
 
-/// Appends the characters of some bytes, as they stand on a terminal.
+/// Appends the characters of `bytes`, read as UTF-8. Hidden characters become JSON escapes.
 #[tactic(auto, unfolding(crate::specs::Shown::text_of))]
 pub(crate) fn push_text(out: &mut Vec<char>, bytes: &[u8]) -> Result<(), AllocError>
     ensures { OnOk result (out.new.items ≡ out.old.items ++ text_of bytes.now) }
@@ -100,7 +101,7 @@ pub(crate) fn push_text(out: &mut Vec<char>, bytes: &[u8]) -> Result<(), AllocEr
     Ok(())
 }
 
-/// Appends a text of ASCII.
+/// Appends the characters of an ASCII text.
 pub(crate) fn push_ascii(out: &mut Vec<char>, bytes: &[u8]) -> Result<(), AllocError>
     ensures { OnOk result (out.new.items ≡ out.old.items ++ bytes.now) }
 {

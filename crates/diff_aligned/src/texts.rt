@@ -1,4 +1,4 @@
-//! The texts of values, names and keys.
+//! Converts JSON values, names and keys of a report to text for the terminal.
 
 ghost use Rattle.std.specs.List.{list_all};
 ghost use Rattle.std.specs.Prelude.{◌≡◌, ◌++◌, [], codes, OnOk, option_and_then};
@@ -14,7 +14,7 @@ use diff_lines::parts::{members_at, number_at, part_of};
 use json::{Value, to_vec};
 use std::alloc::{AllocError, Global};
 
-/// Appends a value as JSON.
+/// Appends a value as JSON, with hidden characters escaped.
 #[tactic(auto, unfolding(crate::specs::Texts::value_text))]
 fn push_value(alloc: Global, out: &mut Vec<char>, value: &Value<'_>) -> Result<(), AllocError>
     requires { HasNumbers (value_view value.now) }
@@ -25,7 +25,8 @@ fn push_value(alloc: Global, out: &mut Vec<char>, value: &Value<'_>) -> Result<(
     Ok(())
 }
 
-/// Returns whether a byte may stand in a word. The byte 194 may not: the characters from U+0080 to
+/// Returns whether a name with this byte may be shown without quotes. Blanks, quotes, commas, `=`,
+/// backslashes and control characters need quotes. So does the byte 194: characters from U+0080 to
 /// U+00BF begin with it, and some of these are control characters.
 fn is_word_byte(byte: u8) -> bool
     ensures { result ≡ is_word_byte byte }
@@ -39,21 +40,22 @@ fn is_word_byte(byte: u8) -> bool
         && byte != 194
 }
 
-/// Returns whether each byte may stand in a word.
+/// Returns whether `is_word_byte` holds for each byte.
 fn are_word_bytes(bytes: &[u8]) -> bool
     ensures { result ≡ list_all is_word_byte bytes.now }
 {
     bytes.iter().all(|byte| is_word_byte(*byte))
 }
 
-/// Returns whether a byte string is a word.
+/// Returns whether a name may be shown without quotes: it isn't empty, and `is_word_byte` holds for
+/// each of its bytes.
 fn is_word(bytes: &[u8]) -> bool
     ensures { result ≡ is_word bytes.now }
 {
     !bytes.is_empty() && are_word_bytes(bytes)
 }
 
-/// Appends a name unchanged if it is a word, and otherwise as a JSON string.
+/// Appends a name: without quotes if `is_word` holds, and else as a JSON string.
 #[tactic(auto, unfolding(crate::specs::Texts::name_text))]
 pub(crate) fn push_name(alloc: Global, out: &mut Vec<char>, name: &str) -> Result<(), AllocError>
     ensures { OnOk result (out.new.items ≡ out.old.items ++ name_text name.now) }
@@ -66,8 +68,8 @@ pub(crate) fn push_name(alloc: Global, out: &mut Vec<char>, name: &str) -> Resul
     Ok(())
 }
 
-/// Appends the value that `change` has on a side, `left` or `right`, or the word `missing` if it
-/// has none.
+/// Appends the value that `change` has on a side (`left` or `right`) as JSON. Appends `missing` if
+/// it has no member of this name.
 pub(crate) fn push_side(
     alloc: Global,
     out: &mut Vec<char>,
@@ -84,7 +86,7 @@ pub(crate) fn push_side(
     }
 }
 
-/// Appends a member as `name=value`.
+/// Appends a member of an object as `name=value`.
 #[tactic(auto, unfolding(crate::specs::Texts::pair_text))]
 pub(crate) fn push_pair(
     alloc: Global,
@@ -102,7 +104,7 @@ pub(crate) fn push_pair(
     Ok(())
 }
 
-/// Appends members one after another, with commas between them.
+/// Appends members as `name=value`, with commas between them.
 fn push_pairs(
     alloc: Global,
     out: &mut Vec<char>,
@@ -121,7 +123,8 @@ fn push_pairs(
     Ok(())
 }
 
-/// Appends the members of a part that is an object.
+/// Appends the members of the object that is the member `name` of `value`. Appends nothing if this
+/// member is no object.
 #[tactic(auto, unfolding(crate::specs::Texts::pairs_text))]
 pub(crate) fn push_pairs_of(
     alloc: Global,
@@ -139,7 +142,8 @@ pub(crate) fn push_pairs_of(
     }
 }
 
-/// Appends the member of this name as it is written if it is a number, and otherwise nothing.
+/// Appends the number that is the member `name` of `value`, with its digits unchanged. Appends
+/// nothing if this member is no number.
 #[tactic(auto, unfolding(crate::specs::Texts::number_text))]
 pub(crate) fn push_number(
     out: &mut Vec<char>,
@@ -152,7 +156,7 @@ pub(crate) fn push_number(
     push_text(out, number_at(value, name).as_bytes())
 }
 
-/// Appends the name of a changed row: its key, or its lines if it has no key.
+/// Appends the key of a changed row, or its line numbers in both files if it has no key.
 #[tactic(auto, unfolding(crate::specs::Texts::row_name))]
 pub(crate) fn push_row_name(
     alloc: Global,

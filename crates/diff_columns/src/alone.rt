@@ -9,7 +9,8 @@ use crate::names::has_column;
 use polars_arrays_flat::byte_rows::ByteRows;
 use std::alloc::{AllocError, Global};
 
-/// Returns whether a column is chosen, and the other table does not have it.
+/// Returns whether the column with index `column` is chosen and the other table has no column of
+/// its name. `others` has the names of the other table's columns.
 fn is_alone<N: ByteRows, O: ByteRows>(
     names: &N,
     others: &O,
@@ -24,7 +25,8 @@ fn is_alone<N: ByteRows, O: ByteRows>(
     choice.has(name) && !has_column(others, name)
 }
 
-/// Lists the chosen columns of a table that the other one does not have.
+/// Returns the indices of the chosen columns whose names the other table does not have, in
+/// ascending order. `others` has the names of the other table's columns.
 pub(crate) fn columns_alone<N: ByteRows, O: ByteRows>(
     alloc: Global,
     names: &N,

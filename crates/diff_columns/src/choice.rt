@@ -1,21 +1,22 @@
-//! The choice of the columns that are compared.
+//! Selects the columns that are compared.
 
 ghost use Rattle.std.specs.Prelude.{◌↔◌, Contains, IsTrue};
 ghost use Rattle.diff_columns.specs.Choice.{IsChosen};
 ghost use Rattle.diff_columns.specs.Names.{names_of};
 
-/// The names by which a caller chooses the columns to compare.
+/// The names of the columns to compare. Key columns are always compared. Any other column is
+/// compared if `only` does not exclude it and `ignored` does not contain it.
 #[derive(Clone, Copy)]
 pub struct Choice<'a> {
-    /// The columns that name a row. They are always compared.
+    /// The names of the key columns.
     pub keys: &'a [&'a [u8]],
-    /// The columns to compare, or `None` for all.
+    /// The names of the columns to compare, besides the key columns. `None`: all columns.
     pub only: Option<&'a [&'a [u8]]>,
-    /// The columns not to compare.
+    /// The names of columns that are not compared, unless they are key columns.
     pub ignored: &'a [&'a [u8]],
 }
 
-/// Returns whether a name is among these.
+/// Returns whether `names` contains `name`.
 fn is_among(names: &[&[u8]], name: &[u8]) -> bool
     ensures { IsTrue result ↔ Contains (names_of names.now) name.now }
 {
@@ -23,7 +24,7 @@ fn is_among(names: &[&[u8]], name: &[u8]) -> bool
 }
 
 impl<'a> Choice<'a> {
-    /// Returns whether a column of this name is chosen.
+    /// Returns whether a column with this name is compared if both tables have it.
     pub(crate) fn has(&self, name: &[u8]) -> bool
         ensures { IsTrue result ↔ IsChosen self.now name.now }
     {

@@ -1,4 +1,4 @@
-//! Why columns are not matched.
+//! The errors of matching columns by name.
 
 ghost use Rattle.std.specs.Prelude.{Some};
 ghost use Rattle.diff_columns.specs.Errors.{word_of};
@@ -24,16 +24,17 @@ impl fmt::Display for Side {
     }
 }
 
-/// The reason why columns are not matched.
+/// An error of matching the columns of two tables by name.
 #[derive(Clone, Copy, Debug, Error)]
 pub enum ColumnError {
     /// An allocation failed.
     #[error("out of memory")]
     Memory,
-    /// A column has the name of an earlier one.
+    /// Two columns of a table have the same name. `column` is the index of the later one.
     #[error("column {column} of the {side} table has the name of an earlier one")]
     NameTwice { side: Side, column: usize },
-    /// No column has the name of a key, whose place among the keys is `key`.
+    /// A table has no column with the name of a key. `key` is the index of the key in
+    /// `Choice::keys`.
     #[error("no column of the {side} table has the name of key {key}")]
     NoKey { side: Side, key: usize },
 }

@@ -14,23 +14,24 @@ use crate::places::key_places;
 use polars_arrays_flat::byte_rows::ByteRows;
 use std::alloc::{AllocError, Global};
 
-/// The columns of two tables that are compared, matched by name.
+/// The result of matching the columns of two tables by name. Columns are given as indices. Column
+/// `left[k]` of the left table is compared with column `right[k]` of the right one.
 #[derive(Drop)]
 pub struct Layout {
-    /// The left columns, in rising order.
+    /// The left columns that are compared, in ascending order.
     pub left: Vec<usize>,
-    /// The right column of the same name, for each of them.
+    /// For each entry of `left`, the right column with the same name.
     pub right: Vec<usize>,
-    /// The places of the key columns among them, in the order of the keys.
+    /// For each key, the index of its column in `left`. The order is that of the keys.
     pub keys: Vec<usize>,
-    /// The chosen left columns that the right table does not have, in rising order.
+    /// The chosen left columns whose names the right table does not have, in ascending order.
     pub left_alone: Vec<usize>,
-    /// The chosen right columns that the left table does not have, in rising order.
+    /// The chosen right columns whose names the left table does not have, in ascending order.
     pub right_alone: Vec<usize>,
 }
 
-/// Tests the names of the columns of two tables: none may come twice in a table, and each key must
-/// be a name in both.
+/// Checks the names of the columns of two tables. Fails with `NameTwice` if a table has two columns
+/// of the same name, and with `NoKey` if a table has no column for a key.
 fn test_names<L: ByteRows, R: ByteRows>(
     left: &L,
     right: &R,
@@ -57,7 +58,8 @@ fn test_names<L: ByteRows, R: ByteRows>(
     Ok(())
 }
 
-/// Lays out the columns of tables whose names can be matched.
+/// Matches the columns of two tables whose names are checked. The only error is a failed
+/// allocation.
 fn layout_of<L: ByteRows, R: ByteRows>(
     alloc: Global,
     left: &L,
@@ -84,9 +86,11 @@ fn layout_of<L: ByteRows, R: ByteRows>(
     })
 }
 
-/// Matches the columns of two tables by name. The strings of `left` and `right` are the names of
-/// their columns. Fails with `NameTwice` where a name comes twice in a table, with `NoKey` where a
-/// table has no column for a key, and else only with `Memory`.
+/// Matches the columns of two tables by name. `left` and `right` have the names of the columns as
+/// their strings.
+///
+/// Fails with `NameTwice` if a table has two columns of the same name, with `NoKey` if a table has
+/// no column for a key, and with `Memory` if an allocation fails.
 pub fn match_columns<L: ByteRows, R: ByteRows>(
     alloc: Global,
     left: &L,

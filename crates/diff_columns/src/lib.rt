@@ -1,6 +1,6 @@
-//! Matches the columns of two tables by their names, and says which of them are compared. Key
-//! columns always are. Another column is compared if it is among those that the caller chooses,
-//! which are all by default, and the caller does not ignore it.
+//! Matches the columns of two tables by name, and selects those that are compared. Key columns are
+//! always compared. Any other column is compared if both tables have it, the caller does not ignore
+//! it, and it is among the columns that the caller chooses (by default all).
 #![tactic(auto)]
 
 mod alone;

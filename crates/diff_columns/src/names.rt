@@ -1,11 +1,11 @@
-//! Names of columns that are looked for.
+//! Looks for the names of columns. A column is given as an index.
 
 ghost use Rattle.std.specs.Prelude.{◌<◌, ◌↔◌, All, Contains, length, IsTrue, MatchOption};
 ghost use Rattle.diff_columns.specs.Names.{AreDistinct, IsMissing, IsNamed, IsRepeated, names_of};
 
 use polars_arrays_flat::byte_rows::ByteRows;
 
-/// Returns the index of a column of this name, or `None`.
+/// Returns the index of a column with this name, or `None` if no column has it.
 pub(crate) fn column_named<N: ByteRows>(names: &N, name: &[u8]) -> Option<usize>
     ensures { MatchOption result (¬ (Contains (N.strings names.now) name.now))
         (IsNamed (N.strings names.now) name.now) }
@@ -18,14 +18,14 @@ pub(crate) fn column_named<N: ByteRows>(names: &N, name: &[u8]) -> Option<usize>
     None
 }
 
-/// Returns whether a column has this name.
+/// Returns whether a column with this name exists.
 pub(crate) fn has_column<N: ByteRows>(names: &N, name: &[u8]) -> bool
     ensures { IsTrue result ↔ Contains (N.strings names.now) name.now }
 {
     column_named(names, name).is_some()
 }
 
-/// Returns whether a column has the name of an earlier one.
+/// Returns whether an earlier column has the same name as this one.
 fn is_repeated<N: ByteRows>(names: &N, column: usize) -> bool
     requires { column < length (N.strings names.now) }
     ensures { IsTrue result ↔ IsRepeated (N.strings names.now) column }
@@ -39,7 +39,8 @@ fn is_repeated<N: ByteRows>(names: &N, column: usize) -> bool
     false
 }
 
-/// Returns the first column that has the name of an earlier one, or `None`.
+/// Returns the index of the first column with the same name as an earlier column, or `None` if all
+/// names are different.
 pub(crate) fn column_repeated<N: ByteRows>(names: &N) -> Option<usize>
     ensures { MatchOption result (AreDistinct (N.strings names.now))
         (IsRepeated (N.strings names.now)) }
@@ -52,7 +53,8 @@ pub(crate) fn column_repeated<N: ByteRows>(names: &N) -> Option<usize>
     None
 }
 
-/// Returns the first key that is the name of no column, or `None`.
+/// Returns the index of the first of `keys` that is not the name of a column, or `None` if each is
+/// the name of a column.
 pub(crate) fn key_missing<N: ByteRows>(names: &N, keys: &[&[u8]]) -> Option<usize>
     ensures { MatchOption result (All (Contains (N.strings names.now)) (names_of keys.now))
         (IsMissing (N.strings names.now) (names_of keys.now)) }

@@ -1,4 +1,4 @@
-//! Columns that both tables have.
+//! Pairs of columns with the same name in both tables.
 
 ghost use Rattle.std.specs.Prelude.{◌<◌, length, IfOk, MatchOption};
 ghost use Rattle.diff_columns.specs.Layout.{IsCompared};
@@ -9,14 +9,15 @@ use crate::names::column_named;
 use polars_arrays_flat::byte_rows::ByteRows;
 use std::alloc::{AllocError, Global};
 
-/// Columns of one name in both tables, place by place.
+/// The pairs of columns that are compared: `left_columns[k]` with `right_columns[k]`.
 #[derive(Drop)]
 pub(crate) struct Pairs {
     pub(crate) left_columns: Vec<usize>,
     pub(crate) right_columns: Vec<usize>,
 }
 
-/// Returns the right column that a left one is compared with, or `None`.
+/// Returns the right column that the left column `column` is compared with. Returns `None` if the
+/// column is not chosen or the right table has no column of its name.
 fn partner<L: ByteRows, R: ByteRows>(
     left: &L,
     right: &R,
@@ -35,7 +36,8 @@ fn partner<L: ByteRows, R: ByteRows>(
     column_named(right, name)
 }
 
-/// Lists the left columns that are compared, and their partners.
+/// Returns the left columns that are compared, in ascending order, and for each the right column
+/// with the same name.
 pub(crate) fn compared_pairs<L: ByteRows, R: ByteRows>(
     alloc: Global,
     left: &L,

@@ -1,4 +1,4 @@
-//! The places of key columns among listed columns.
+//! Finds the key columns in a list of columns.
 
 ghost use Rattle.std.specs.Prelude.{◌<◌, All, length, IfOk};
 ghost use Rattle.diff_columns.specs.Layout.{AreKeyPlaces, IsPlace};
@@ -8,7 +8,7 @@ ghost use Rattle.diff_columns.specs.Pairs.{HasPlace};
 use polars_arrays_flat::byte_rows::ByteRows;
 use std::alloc::{AllocError, Global};
 
-/// Returns the place of the column of this name among these, which have it.
+/// Returns the index in `columns` of the column with this name. `columns` must contain one.
 fn place_named<N: ByteRows>(names: &N, columns: &[usize], name: &[u8]) -> usize
     requires within { All (λ c. c < length (N.strings names.now)) columns.now }
     requires place { HasPlace (N.strings names.now) columns.now name.now }
@@ -22,7 +22,8 @@ fn place_named<N: ByteRows>(names: &N, columns: &[usize], name: &[u8]) -> usize
     unreachable!()
 }
 
-/// Returns for each key the place of its column among these, which have them all.
+/// Returns for each key the index of its column in `columns`. `columns` must contain a column for
+/// each key.
 pub(crate) fn key_places<N: ByteRows>(
     alloc: Global,
     names: &N,

@@ -1,4 +1,4 @@
-//! A reader that can tell whether a byte it returned is a line feed.
+//! A reader that stores its last bytes, to tell whether one of them is a line feed.
 
 ghost use Rattle.std.specs.Prelude.{◌≡◌};
 ghost use Rattle.diff_csv.specs.Reading.{ends_remaining};
@@ -6,23 +6,23 @@ ghost use Rattle.diff_csv.specs.Reading.{ends_remaining};
 use std::io;
 use std::io::Read;
 
-/// The most bytes kept of one read. The reader of the `csv` crate reads this many at a time, and
-/// reads again once it has used them all.
+/// The most bytes that are stored of one read. The reader of the `csv` crate reads at most this
+/// many bytes at a time, and reads again once it has used all of them.
 const CHUNK: usize = 8192;
 
-/// A reader that keeps the bytes of its last read that returned any.
+/// A reader that stores the bytes of its last read. A read that returns no bytes does not count.
 #[derive(Drop)]
 pub(crate) struct Ends<R> {
     pub(crate) inner: R,
     chunk: [u8; CHUNK],
-    // The number of bytes of all reads before that one.
+    // The number of bytes that were returned before the stored ones.
     start: u64,
-    // The number of its bytes.
+    // The number of bytes of the last read.
     count: usize,
 }
 
 impl<R> Ends<R> {
-    /// Creates a reader that gives the bytes of another one.
+    /// Creates a reader that returns the bytes of `inner`. No bytes are stored yet.
     pub(crate) fn new(inner: R) -> Ends<R>
         ensures { result.inner ≡ inner }
     {
@@ -34,8 +34,8 @@ impl<R> Ends<R> {
         }
     }
 
-    /// Returns whether the last one of the first `end` bytes is a line feed. It must be one of the
-    /// bytes that are kept.
+    /// Returns whether the byte at offset `end - 1`, counted from the first byte of the whole text,
+    /// is a line feed. This byte must still be stored.
     pub(crate) fn is_feed_before(&self, end: u64) -> bool {
         let index = end.saturating_sub(self.start).saturating_sub(1);
         match usize::try_from(index) {
@@ -44,7 +44,7 @@ impl<R> Ends<R> {
         }
     }
 
-    /// Keeps the bytes of a read in place of those of the last one, if there are any.
+    /// Stores the bytes of a read in place of the earlier ones. Does nothing if `bytes` is empty.
     fn keep(&mut self, bytes: &[u8])
         ensures { self.new.inner ≡ self.old.inner }
     {

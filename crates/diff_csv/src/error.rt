@@ -1,4 +1,4 @@
-//! Why a CSV text is not read.
+//! The errors of reading a CSV text.
 
 ghost use Rattle.std.specs.Prelude.{◌≡◌};
 ghost use Rattle.csv.specs.Reading.{error_kind};
@@ -9,30 +9,30 @@ use std::alloc::{AllocError, AllocFailed};
 use std::io;
 use thiserror::Error;
 
-/// The reason why a table is not read.
+/// An error of reading a CSV text.
 #[derive(Debug, Drop, Error)]
 pub enum CsvError {
     /// An allocation failed.
     #[error("out of memory")]
     Memory,
-    /// A read failed.
+    /// The reader that gives the text failed.
     #[error("{cause}")]
     Read {
         cause: io::Error,
     },
-    /// The byte between fields is a quote, a line feed or a carriage return. Nothing was read.
+    /// The delimiter is a quote, a line feed or a carriage return. Nothing was read.
     #[error("fields can't be parted by a quote or by the end of a line")]
     Delimiter,
-    /// A record has another number of fields than the first one. `line` is where it begins, counted
-    /// as a table's lines are.
+    /// A record has a different number of fields (`found`) than the first record (`expected`).
+    /// `line` is the line at which the record begins, counted as in `CsvTable::lines`.
     #[error("the record at line {line} has a field count of {found}, and the first of {expected}")]
     Length {
         line: u64,
         expected: u64,
         found: u64,
     },
-    /// A quote opens in the last record, and the text ends within it. `line` is where this record
-    /// begins, counted as a table's lines are.
+    /// The text ends within quotes. `line` is the line at which the record with the opening quote
+    /// begins, counted as in `CsvTable::lines`.
     #[error("the quote that opens in the record at line {line} never ends")]
     OpenQuote {
         line: u64,
@@ -55,7 +55,7 @@ impl<T: Drop> From<AllocFailed<T>> for CsvError {
     }
 }
 
-/// Returns `Read` for a failed read of the `csv` crate's reader, and `Memory` for its other errors.
+/// Converts an error of the `csv` crate: a failed read becomes `Read`, any other error `Memory`.
 pub(crate) fn fault_of(error: csv::Error) -> CsvError
     ensures { result ≡ fault_of_kind (error_kind error) }
 {

@@ -1,6 +1,6 @@
-//! Reads CSV texts into tables. The rows of a text are the records that the `csv` crate reads, or
-//! those of a part, each with its cells in chosen columns. All records have the length of the first
-//! one.
+//! Reads CSV texts into tables. A row of a table is a record that the `csv` crate reads, with its
+//! cells in the columns that the caller chooses. The caller can restrict the rows to one part of
+//! the text. All records must have as many fields as the first one.
 #![tactic(auto)]
 
 mod ends;

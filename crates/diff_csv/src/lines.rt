@@ -1,9 +1,9 @@
-//! The lines at which records begin.
+//! Computes the lines at which records begin.
 //!
-//! The reader passes over empty lines before a record, and counts the line feeds that it has read.
-//! It has read a record up to its end: an LF, or the CR of a CR LF, whose LF it reads later. So the
-//! record begins at the line that the reader has counted, less the line feeds in its fields, and
-//! less one if an LF ended it.
+//! The reader of the `csv` crate skips empty lines before a record, and counts the line feeds that
+//! it has read. A record ends with an LF, with a CR, or with the CR of a CR LF; in the last case
+//! the reader reads the LF with the next record. So the line of a record is the reader's line
+//! count, minus the line feeds in the record's fields, minus one if the record ended with an LF.
 
 use crate::ends::Ends;
 use csv::{ByteRecord, Reader};
@@ -14,12 +14,12 @@ fn feeds_in(record: &ByteRecord) -> u64 {
     record.as_slice().iter().filter(|b| **b == b'\n').count() as u64
 }
 
-/// Returns the line at which a record begins. The reader has just read it.
+/// Returns the line at which `record` begins. `record` must be the last one that `reader` has read.
 pub(crate) fn line_of<R: Read>(reader: &Reader<Ends<R>>, record: &ByteRecord) -> u64 {
     let place = reader.position();
     let is_ended_by_feed = reader.get_ref().is_feed_before(place.byte());
     let last = place.line().saturating_sub(u64::from(is_ended_by_feed));
-    // No line feed was read, except one that ended the record.
+    // The line count did not grow, except by the line feed that ended the record.
     let first = record.position().map_or(0, |at| at.line());
     if last <= first {
         return last;

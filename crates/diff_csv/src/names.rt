@@ -1,4 +1,4 @@
-//! The names of columns.
+//! The names of the columns of a CSV text.
 
 ghost use Rattle.std.specs.Fmt.{decimal};
 ghost use Rattle.std.specs.List.{range_with_len};
@@ -14,7 +14,7 @@ use polars_arrays_bits::error::ComputeError;
 use polars_arrays_bytes::binary::BinaryArray;
 use std::alloc::{AllocError, Global};
 
-/// Appends the fields of a record.
+/// Appends each field of a record to `strings`.
 fn push_fields(strings: &mut Strings, row: &ByteRecord) -> Result<(), AllocError>
     ensures { OnOk result
         ((all : List (List ℕ)) → AreStrings strings.old all
@@ -26,7 +26,7 @@ fn push_fields(strings: &mut Strings, row: &ByteRecord) -> Result<(), AllocError
     Ok(())
 }
 
-/// Returns the fields of a record. The one error is `Memory`.
+/// Returns the fields of a record as an array. The only error is `Memory`.
 pub(crate) fn field_names(alloc: Global, row: &ByteRecord) -> Result<BinaryArray<i64>, ComputeError>
     ensures { MatchResult result
         (λ names. offset_strings (λ x. x) names ≡ fields_of row.now) IsMemory }
@@ -37,7 +37,7 @@ pub(crate) fn field_names(alloc: Global, row: &ByteRecord) -> Result<BinaryArray
     Ok(array)
 }
 
-/// Returns the numbers from 1 up to `count` as texts. The one error is `Memory`.
+/// Returns the decimal numbers from 1 to `count` as an array of texts. The only error is `Memory`.
 pub(crate) fn number_names(alloc: Global, count: usize) -> Result<BinaryArray<i64>, ComputeError>
     ensures { MatchResult result
         (λ names. offset_strings (λ x. x) names ≡ map decimal (range_with_len 1 count)) IsMemory }

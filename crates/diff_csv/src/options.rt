@@ -1,19 +1,20 @@
-//! Options for reading a CSV text.
+//! The options for reading a CSV text.
 
 ghost use Rattle.std.specs.Prelude.{◌≡◌};
 ghost use Rattle.diff_csv.specs.Options.{is_delimiter};
 
-/// The options by which a CSV text is read.
+/// The options for reading a CSV text.
 #[derive(Clone, Copy)]
 pub struct CsvOptions {
-    /// The byte between fields: any but a quote, a line feed and a carriage return.
+    /// The byte between two fields. It can't be a quote, a line feed or a carriage return.
     pub delimiter: u8,
-    /// `true` if the first record names the columns.
+    /// `true` if the first record has the names of the columns. `false` if the first record is a
+    /// row.
     pub has_header: bool,
 }
 
-/// Returns whether a byte may stand between fields: any but a quote, a line feed and a carriage
-/// return.
+/// Returns whether a byte is allowed as a delimiter. All bytes are, except a quote, a line feed and
+/// a carriage return.
 pub fn is_delimiter(byte: u8) -> bool
     ensures { result ≡ is_delimiter byte }
 {

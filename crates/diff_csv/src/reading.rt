@@ -1,9 +1,10 @@
-//! The records of a CSV text, one after another.
+//! Reads the records of a CSV text, one after another.
 //!
-//! The reader of the `csv` crate reads a text that ends within quotes as if the quotes ended there.
-//! To notice such a text, the reader is given a mark after it: a line feed and a quote. If the
-//! text ends outside quotes, the mark makes one record more, of one empty field. If it ends within
-//! quotes, the line feed becomes a part of the open field, and the last record is a different one.
+//! If a text ends within quotes, the reader of the `csv` crate closes them silently. To notice
+//! this, the reader gets two more bytes after the text, the mark: a line feed and a quote. If the
+//! text ends outside quotes, the mark becomes one more record with a single empty field. If the
+//! text ends within quotes, the line feed becomes a part of the open field, and no such record
+//! follows.
 
 ghost use Rattle.std.specs.Prelude.{◌≡◌, ◌↔◌, ◌++◌, ◌∷◌, [], true, ℕ, List, Some, IfErr, IfOk};
 ghost use Rattle.std.specs.Prelude.{MatchResult};
@@ -25,10 +26,10 @@ use std::alloc::Global;
 use std::io::{Chain, Read};
 use std::mem;
 
-/// The mark that is read after a text.
+/// The mark: bytes that are added to the end of a text.
 const MARK: &[u8] = b"\n\"";
 
-/// Returns whether a record is the one that the mark alone makes: one empty field.
+/// Returns whether a record has a single field that is empty, as the record of the mark alone has.
 fn is_mark(row: &ByteRecord) -> bool
     ensures { (result ≡ true) ↔ (fields_of row.now ≡ mark_fields) }
 {
@@ -38,7 +39,8 @@ fn is_mark(row: &ByteRecord) -> bool
     }
 }
 
-/// Returns a reader of the records of a text, of any lengths, with the mark after it.
+/// Creates a CSV reader for a text followed by the mark. The reader takes records of any length,
+/// and treats the first record like the others.
 fn reader_of<R: Read>(
     alloc: Global,
     input: R,
@@ -55,7 +57,7 @@ fn reader_of<R: Read>(
         .from_reader(alloc, marked)
 }
 
-/// Reads the next record into `row`. Returns whether there was one.
+/// Reads the next record into `row`. Returns `false` if there was no further record.
 #[inline(always)]
 fn read_record<R: Read>(reader: &mut Reader<R>, row: &mut ByteRecord) -> Result<bool, CsvError>
     ensures told { IfOk result
@@ -70,16 +72,16 @@ fn read_record<R: Read>(reader: &mut Reader<R>, row: &mut ByteRecord) -> Result<
     }
 }
 
-/// Records of a text that are given one after another.
+/// A reader that returns the records of a text one after another. It reads one record ahead.
 pub(crate) struct Records<R> {
     reader: Reader<Ends<Chain<R, &'static [u8]>>>,
-    // The record after those that were given. It is the mark's if the text has no more records.
+    // The next record to return. If the text has no further record, it is that of the mark.
     ahead: Box<ByteRecord>,
-    // The line at which it begins.
+    // The line at which `ahead` begins.
     line: u64,
 }
 
-// By hand, so that each place where records go out of scope is one call.
+// Written by hand, so that dropping the records is a single call in the compiled code.
 impl<R: Drop> Drop for Records<R> {
     fn drop(self) {
         let Records {
@@ -93,7 +95,7 @@ impl<R: Drop> Drop for Records<R> {
 }
 
 impl<R: Read + Drop> Records<R> {
-    /// Begins a text. No record is given yet.
+    /// Creates a reader, and reads the first record ahead. Fails if reading or an allocation fails.
     pub(crate) fn new(alloc: Global, input: R, options: CsvOptions) -> Result<Records<R>, CsvError>
         ensures { MatchResult result
             (λ records. (text : List ℕ) → R.remaining input ≡ Some text
@@ -102,7 +104,7 @@ impl<R: Read + Drop> Records<R> {
     {
         let mut ahead = Box::new(alloc, ByteRecord::new(alloc))?;
         let mut reader = reader_of(alloc, input, options);
-        // There is a record, if only the mark's.
+        // At least the record of the mark follows, so this read finds a record.
         read_record(&mut reader, &mut ahead)?;
         let line = line_of(&reader, &ahead);
         Ok(Records {
@@ -112,8 +114,8 @@ impl<R: Read + Drop> Records<R> {
         })
     }
 
-    /// Reads the next record into `row`. Returns the line on which it begins, or `None` if there
-    /// are no more.
+    /// Moves the next record into `row`. Returns the line at which the record begins, or `None` if
+    /// there are no more records. Fails with `OpenQuote` if the text ends within quotes.
     pub(crate) fn read(&mut self, row: &mut Box<ByteRecord>) -> Result<Option<u64>, CsvError>
         ensures told { MatchResult result
             (λ line. (options : CsvOptions) (text : List ℕ) (rows : List (List (List ℕ)))

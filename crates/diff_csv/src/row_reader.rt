@@ -1,4 +1,4 @@
-//! The rows of a CSV text, one after another.
+//! Reads the rows of a CSV text, one after another.
 
 ghost use Rattle.std.specs.Prelude.{◌≡◌, [], ◌∷◌, if◌then◌else◌, ℕ, List, Option, Some, length};
 ghost use Rattle.std.specs.Prelude.{IfErr, MatchResult};
@@ -17,31 +17,33 @@ use std::alloc::Global;
 use std::io::Read;
 use std::mem;
 
-/// The record that is given next as a row.
+/// The place of the next row.
 #[derive(Clone, Copy)]
 pub(crate) enum Ahead {
-    /// The first one, which was read before any row was given.
+    /// The next row is the first record, which is stored in `RowReader::first`.
     First,
-    /// The one after those that were read.
+    /// The next row is still to be read from the text.
     Later,
-    /// None: all rows are given.
+    /// There are no more rows.
     End,
 }
 
-/// The rows of a CSV text that are given one after another.
+/// A reader that returns the rows of a CSV text one after another. All records must have as many
+/// fields as the first one. A first record with names is not a row.
 #[derive(Drop)]
 pub struct RowReader<R> {
     records: Records<R>,
-    // The first record. If it is a row, it stands here until it is given.
+    // The first record, while `ahead` is `First`.
     first: Box<ByteRecord>,
-    // The line at which it begins.
+    // The line at which the first record begins.
     line: u64,
     // The number of fields of the first record.
     width: usize,
     ahead: Ahead,
 }
 
-/// Returns which record is the first row of a text that has a record.
+/// Returns where the first row of a text with a record is found: after a header, or in the first
+/// record.
 fn first_row(has_header: bool) -> Ahead
     ensures { result ≡ (if has_header then Later else First) }
 {
@@ -52,7 +54,8 @@ fn first_row(has_header: bool) -> Ahead
     }
 }
 
-/// Checks that a record has `width` fields. `line` is where it begins.
+/// Checks that a record has `width` fields, and fails with `Length` if not. `line` is the line at
+/// which the record begins.
 fn check_length(row: &ByteRecord, width: usize, line: u64) -> Result<(), CsvError>
     ensures { MatchResult result
         (λ _. length (fields_of row.now) ≡ width)
@@ -70,8 +73,9 @@ fn check_length(row: &ByteRecord, width: usize, line: u64) -> Result<(), CsvErro
 }
 
 impl<R: Read + Drop> RowReader<R> {
-    /// Creates a reader of the rows of a text. The first record of the text, if it has one, is read
-    /// already, begins at `line`, and is a row if there is no header. The one error is `Memory`.
+    /// Creates a reader of the rows of a text. `first` is the first record, which begins at `line`,
+    /// or `None` if the text has no records. `records` has the records after it. With a header the
+    /// first record is not a row. The only error is `Memory`.
     pub(crate) fn new(
         alloc: Global,
         records: Records<R>,
@@ -106,7 +110,8 @@ impl<R: Read + Drop> RowReader<R> {
         })
     }
 
-    /// Gives the row after those that were read in `row`.
+    /// Reads the next row from the text into `row`. Returns the line at which the row begins, or
+    /// `None` if there are no more rows.
     fn read_later(&mut self, row: &mut Box<ByteRecord>) -> Result<Option<u64>, CsvError>
         requires { self.old.ahead ≡ Later }
         ensures told { MatchResult result
@@ -126,10 +131,12 @@ impl<R: Read + Drop> RowReader<R> {
         Ok(Some(line))
     }
 
-    /// Reads the next row into `row`. Returns the line on which it begins, or `None` if there are
-    /// no more. Fails with `Length` only at a record of another length than the first one's, with
-    /// `OpenQuote` only where the text ends within quotes, and never with `Delimiter`. After an
-    /// error the rest of the text can't be read.
+    /// Reads the next row into `row`. Returns the line at which the row begins, or `None` if there
+    /// are no more rows.
+    ///
+    /// Fails with `Length` if the row has not as many fields as the first record, and with
+    /// `OpenQuote` if the text ends within quotes. Never fails with `Delimiter`. No rows can be
+    /// read after an error.
     pub fn read(&mut self, row: &mut Box<ByteRecord>) -> Result<Option<u64>, CsvError>
         ensures told { MatchResult result
             (λ line. (options : CsvOptions) (text : List ℕ) (rows : List (List (List ℕ)))

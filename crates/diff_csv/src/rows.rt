@@ -1,4 +1,4 @@
-//! Rows of cells that are appended one after another.
+//! Collects rows of cells.
 
 ghost use Rattle.std.specs.Prelude.{◌≡◌, ◌++◌, ◌∷◌, [], ℕ, suc, List, Option, get_or, length, IfOk};
 ghost use Rattle.std.specs.Prelude.{IfSome, OnOk};
@@ -15,16 +15,16 @@ use diff_tables::string_list::StringList;
 use diff_tables::strings::Strings;
 use std::alloc::{AllocError, Global};
 
-/// Rows of cells, one row's cells after another's, and the line at which each row begins.
+/// Collected rows: their cells, row by row, and the line at which each row begins.
 #[derive(Drop)]
 pub(crate) struct Rows {
     pub(crate) cells: Strings,
     pub(crate) lines: Vec<u64>,
-    // The number of each row in the text, from 1 on, if only the rows of a part are read.
+    // If only the rows of a part are read: the number of each row in the text. The first row is 1.
     pub(crate) numbers: Vec<u64>,
 }
 
-/// Returns the field in a column, or an empty one where the record is shorter.
+/// Returns the field with index `column`, or an empty field if the record has fewer fields.
 fn cell(row: &ByteRecord, column: usize) -> &[u8]
     ensures { result.now ≡ get_or (fields_of row.now) column [] }
 {
@@ -34,7 +34,7 @@ fn cell(row: &ByteRecord, column: usize) -> &[u8]
     }
 }
 
-/// A record's cells in some columns.
+/// The cells of a record in the chosen columns. It is a list of strings.
 #[derive(Clone, Copy)]
 struct Cells<'a> {
     row: &'a ByteRecord,
@@ -54,7 +54,8 @@ impl<'a> StringList for Cells<'a> {
     }
 }
 
-/// Returns whether a row of these cells is read: it is in the part, or there is no part.
+/// Returns whether a row is read. This is so if `part` is `None` or contains the row. `keys` are
+/// the indices of the key cells in `cells`.
 #[inline(always)]
 fn is_read(cells: &Cells<'_>, keys: &[usize], part: Option<Part>) -> bool
     ensures { result
@@ -66,7 +67,7 @@ fn is_read(cells: &Cells<'_>, keys: &[usize], part: Option<Part>) -> bool
     }
 }
 
-/// Appends a record's cells.
+/// Appends the cells of a record to `strings`.
 #[inline(always)]
 fn push_cells(strings: &mut Strings, cells: &Cells<'_>) -> Result<(), AllocError>
     ensures { OnOk result
@@ -78,7 +79,7 @@ fn push_cells(strings: &mut Strings, cells: &Cells<'_>) -> Result<(), AllocError
     Ok(())
 }
 
-/// Appends the number of a row, if only the rows of a part are read.
+/// Appends the number of a row, but only if `part` is not `None`.
 #[inline(always)]
 fn push_number(numbers: &mut Vec<u64>, part: Option<Part>, number: u64) -> Result<(), AllocError>
     ensures { OnOk result
@@ -91,7 +92,7 @@ fn push_number(numbers: &mut Vec<u64>, part: Option<Part>, number: u64) -> Resul
 }
 
 impl Rows {
-    /// Returns no rows.
+    /// Creates an empty collection.
     pub(crate) fn new(alloc: Global) -> Result<Rows, AllocError>
         ensures { IfOk result
             (λ rows. (columns keys : List ℕ) (part : Option PartNumber)
@@ -107,8 +108,8 @@ impl Rows {
         })
     }
 
-    /// Appends the row of a record if it is asked for: its cells, and the line at which it begins.
-    /// `number` is the number of the record among those that are rows, from 1 on.
+    /// Appends the cells and the line of a record, if its row is in the wanted part. `line` is the
+    /// line at which the record begins. `number` is the number of its row in the text, from 1 on.
     pub(crate) fn push(
         &mut self,
         row: &ByteRecord,

@@ -1,4 +1,4 @@
-//! A CSV text from its first record on.
+//! Opens a CSV text, and reads its rows into a table.
 
 ghost use Rattle.std.specs.Prelude.{◌≡◌, [], ℕ, List, Some, true, option_map, IfErr, IfOk};
 ghost use Rattle.std.specs.Prelude.{MatchResult};
@@ -28,20 +28,21 @@ use polars_arrays_bytes::binary::BinaryArray;
 use std::alloc::Global;
 use std::io::Read;
 
-/// A table, and the line of the text at which each of its rows begins.
+/// A table that was read from a CSV text, with the line of each row.
 #[derive(Drop)]
 pub struct CsvTable {
-    /// The rows that were asked for, each with its cells in the columns that were asked for.
+    /// The wanted rows, each with its cells in the wanted columns.
     pub table: Table,
-    /// The line at which each row begins, from 1 on. Empty lines and line feeds in quoted fields
-    /// count. A carriage return alone ends a record, and counts as no line.
+    /// The line at which each row begins. The first line is 1. Empty lines and line feeds within
+    /// quotes count as line ends. A carriage return without a line feed ends a record but not a
+    /// line.
     pub lines: Vec<u64>,
-    /// The number of each row among all rows of the text, from 1 on, if only the rows of a part
-    /// were read.
+    /// The number of each row among all rows of the text, from 1 on. `None` if all rows were read,
+    /// not those of one part.
     pub numbers: Option<Vec<u64>>,
 }
 
-/// Returns the numbers of rows, if only the rows of a part were read.
+/// Returns `Some(numbers)` if only the rows of a part were read, and else `None`.
 fn numbers_of(numbers: Vec<u64>, part: Option<Part>) -> Option<Vec<u64>>
     ensures { result ≡ option_map (λ _. numbers) part }
 {
@@ -51,7 +52,7 @@ fn numbers_of(numbers: Vec<u64>, part: Option<Part>) -> Option<Vec<u64>>
     }
 }
 
-/// Returns the table of rows, each with one cell for each column.
+/// Returns the table of the collected rows. The only error is `Memory`.
 fn table_of(alloc: Global, rows: Rows, wanted: &Wanted<'_>) -> Result<CsvTable, CsvError>
     requires { (held : List (List (List ℕ)))
         × HoldsRows wanted.now.columns.now wanted.now.keys.now wanted.now.part rows held }
@@ -77,7 +78,7 @@ fn table_of(alloc: Global, rows: Rows, wanted: &Wanted<'_>) -> Result<CsvTable, 
     }
 }
 
-/// Reads the rows that are asked for, from the first one on.
+/// Reads the wanted rows from `reader`, up to the end of the text.
 fn read_rows<R: Read + Drop>(
     alloc: Global,
     mut reader: RowReader<R>,
@@ -100,18 +101,18 @@ fn read_rows<R: Read + Drop>(
     Err(CsvError::Memory)
 }
 
-/// A CSV text whose first record is read.
+/// A CSV text whose first record has been read.
 pub struct Source<R> {
     // The records after the first one.
     records: Records<R>,
-    // The first record, unless the text has none.
+    // The first record, or `None` if the text has no records.
     first: Option<ByteRecord>,
-    // The line at which it begins.
+    // The line at which the first record begins, or 0 if the text has no records.
     line: u64,
     has_header: bool,
 }
 
-// By hand, so that each place where a source goes out of scope is one call.
+// Written by hand, so that dropping a source is a single call in the compiled code.
 impl<R: Drop> Drop for Source<R> {
     fn drop(self) {
         let Source {
@@ -126,9 +127,11 @@ impl<R: Drop> Drop for Source<R> {
 }
 
 impl<R: Read + Drop> Source<R> {
-    /// Reads the first record of a text. Fails with `Delimiter` exactly where the byte between
-    /// fields may not stand there, with `OpenQuote` only where the text ends within quotes that
-    /// open in the first record, with `Read` where the reader fails, and else only with `Memory`.
+    /// Opens a text and reads its first record.
+    ///
+    /// Fails with `Delimiter` if the delimiter is not allowed (`is_delimiter`), with `OpenQuote` if
+    /// the text ends within quotes that open in the first record, with `Read` if the reader fails,
+    /// and with `Memory` if an allocation fails.
     pub fn open(alloc: Global, input: R, options: CsvOptions) -> Result<Source<R>, CsvError>
         ensures opened { IfOk result
             (λ source. (text : List ℕ) → R.remaining input ≡ Some text
@@ -163,8 +166,9 @@ impl<R: Read + Drop> Source<R> {
         })
     }
 
-    /// Returns the names of the columns: the fields of the first record, or their numbers from 1 on
-    /// where there is no header. The one error is `Memory`.
+    /// Returns the names of the columns: the fields of the first record, or without a header the
+    /// decimal numbers from 1 on. A text without records has no columns. The only error is
+    /// `Memory`.
     pub fn names(&self, alloc: Global) -> Result<BinaryArray<i64>, ComputeError>
         ensures { MatchResult result
             (λ names. (options : CsvOptions) (text : List ℕ) (records : List (List (List ℕ)))
@@ -183,7 +187,7 @@ impl<R: Read + Drop> Source<R> {
         Ok(numbers)
     }
 
-    /// Returns a reader that gives the rows one by one. The one error is `Memory`.
+    /// Returns a reader that gives the rows one after another. The only error is `Memory`.
     pub fn rows(self, alloc: Global) -> Result<RowReader<R>, CsvError>
         ensures { MatchResult result
             (λ reader. (options : CsvOptions) (text : List ℕ) → IsOpen R.remaining options text self
@@ -199,10 +203,12 @@ impl<R: Read + Drop> Source<R> {
         Ok(reader)
     }
 
-    /// Reads the rows, or those of a part, each with its cells in some columns. A cell is empty if
-    /// the record has no such column. Fails with `Length` only at a record of another length than
-    /// the first one's, whether or not its row is wanted, with `OpenQuote` only where the text ends
-    /// within quotes, and never with `Delimiter`.
+    /// Reads the wanted rows, each with its cells in the wanted columns. A cell is empty if the
+    /// text has no such column.
+    ///
+    /// Fails with `Length` if a record has not as many fields as the first one, even if its row is
+    /// not wanted. Fails with `OpenQuote` if the text ends within quotes. Never fails with
+    /// `Delimiter`.
     pub fn read(self, alloc: Global, wanted: &Wanted<'_>) -> Result<CsvTable, CsvError>
         ensures shape { IfOk result (HasShape wanted.now.columns.now) }
         ensures table { MatchResult result

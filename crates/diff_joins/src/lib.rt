@@ -1,7 +1,7 @@
-//! Laws of comparing tables by ranges of keys. Two left tables lie one after another, and two
-//! right tables do too. If no key of the first tables is a key of the second ones, the comparison
-//! of the whole is made of the comparison of the first tables and that of the second ones. Ranges
-//! of keys in sorted tables are such tables.
+//! Laws about comparing tables in several ranges of keys. If two tables are split in such a way
+//! that the first parts have no key in common with the second parts, the comparison of the tables
+//! is the comparison of the first parts followed by that of the second parts. Tables that are
+//! sorted by key can be split at any key.
 #![tactic(auto)]
 
 pub mod laws;
