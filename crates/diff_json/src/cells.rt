@@ -1,4 +1,4 @@
-//! Cells of CSV, in JSON reports.
+//! Writes cells of CSV as JSON values.
 
 ghost use Rattle.std.specs.Option.{option_map};
 ghost use Rattle.std.specs.Prelude.{◌≡◌, ◌++◌, OnOk};
@@ -8,7 +8,7 @@ use crate::strings::push_string;
 use diff_words::cells::is_null;
 use std::alloc::AllocError;
 
-/// Appends a cell as a string, or `null` if it is the cell that stands for no value.
+/// Appends `null` if `cell` equals the text that `null` has, and else the cell as a JSON string.
 #[tactic(auto, unfolding(crate::specs::Cells::json_cell))]
 pub(crate) fn push_cell(
     out: &mut Vec<u8>,

@@ -1,4 +1,4 @@
-//! The columns in which two rows differ.
+//! Writes the columns in which two rows differ, as members of a JSON object.
 
 ghost use Rattle.std.specs.Prelude.{◌≡◌, ◌<◌, ◌+◌, ◌++◌, [], if◌then◌else◌, length, codes, IfOk};
 ghost use Rattle.std.specs.Prelude.{OnOk};
@@ -14,7 +14,8 @@ use diff_words::lists::push_gap;
 use polars_arrays_flat::byte_rows::ByteRows;
 use std::alloc::AllocError;
 
-/// Appends the name of a column, and the two cells in it.
+/// Appends the member `"COLUMN":{"left":CELL,"right":CELL}` for a column of left row `i` and right
+/// row `j`.
 fn push_change(
     out: &mut Vec<u8>,
     sides: &Sides,
@@ -40,8 +41,8 @@ fn push_change(
     Ok(())
 }
 
-/// Appends a column where the two rows differ in it, as the element of a list that has `written`
-/// elements already. Returns how many it has then.
+/// Appends the member for a column (`push_change`) if left row `i` and right row `j` differ in it.
+/// `written` is the number of members that the object has. Returns their number after the call.
 fn push_if_changed(
     out: &mut Vec<u8>,
     sides: &Sides,
@@ -70,7 +71,8 @@ fn push_if_changed(
     Ok(written + 1)
 }
 
-/// Appends the columns in which two rows differ.
+/// Appends a member for each column in which left row `i` and right row `j` differ, with commas
+/// between the members.
 pub(crate) fn push_changes(
     out: &mut Vec<u8>,
     sides: &Sides,

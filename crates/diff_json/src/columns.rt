@@ -1,4 +1,4 @@
-//! The lines of columns that only one input has.
+//! Writes JSON lines about columns that only one input has.
 
 ghost use Rattle.std.specs.Prelude.{◌≡◌, ◌++◌, OnOk};
 ghost use Rattle.diff_columns.specs.Errors.{word_of};
@@ -8,7 +8,7 @@ use crate::strings::push_string;
 use diff_columns::error::Side;
 use std::alloc::AllocError;
 
-/// Returns the word for a side.
+/// Returns the name of a side in JSON: `left` or `right`.
 fn word_of(side: Side) -> &'static [u8]
     ensures { result.now ≡ word_of side }
 {
@@ -18,7 +18,7 @@ fn word_of(side: Side) -> &'static [u8]
     }
 }
 
-/// Appends the line of a column that only one input has.
+/// Appends the JSON line which says that the column `name` is only in the input on this side.
 
 pub fn push_json_column(out: &mut Vec<u8>, side: Side, name: &[u8]) -> Result<(), AllocError>
     ensures { OnOk result (out.new.items ≡ out.old.items ++ column_object side name.now) }

@@ -1,4 +1,4 @@
-//! The line with the counts.
+//! Writes the JSON line with the counts.
 
 ghost use Rattle.std.specs.Prelude.{◌≡◌, ◌<◌, ◌+◌, ◌++◌, [], if◌then◌else◌, length, codes};
 ghost use Rattle.std.specs.Prelude.{IfOk, OnOk};
@@ -18,8 +18,8 @@ use polars_arrays_bytes::binary::BinaryArray;
 use polars_arrays_flat::byte_rows::ByteRows;
 use std::alloc::AllocError;
 
-/// Appends the name of a column where its count is not 0, and the count, as the element of a list
-/// that has `written` elements already. Returns how many it has then.
+/// Appends the member `"COLUMN":COUNT` for a column if its count is not 0. `written` is the number
+/// of members that the object has. Returns their number after the call.
 fn push_if_counted(
     out: &mut Vec<u8>,
     names: &BinaryArray<i64>,
@@ -46,7 +46,8 @@ fn push_if_counted(
     Ok(written + 1)
 }
 
-/// Appends the columns that differ, each with its count.
+/// Appends a member `"COLUMN":COUNT` for each column whose count is not 0, with commas between the
+/// members. `counts` has the count of each column.
 fn push_by_column(
     out: &mut Vec<u8>,
     names: &BinaryArray<i64>,
@@ -64,8 +65,8 @@ fn push_by_column(
     Ok(())
 }
 
-/// Appends how many rows are changed, removed, added and the same, and how many differences have
-/// no line.
+/// Appends the members `changed`, `removed`, `added`, `same` and `not_shown` without braces.
+/// `not_shown` is the number of differences that have no line of their own.
 #[tactic(auto, unfolding(crate::specs::Counts::totals_members))]
 pub fn push_totals(
     out: &mut Vec<u8>,
@@ -86,8 +87,9 @@ pub fn push_totals(
     Ok(())
 }
 
-/// Appends the last line: how many rows differ, and in which columns. `counts` says how often each
-/// column of these names differs.
+/// Appends the last line of a report, the JSON line with the counts. `counts` has for each column
+/// the number of row pairs that differ in it. `limit` is the most differences with a line of their
+/// own; the rest are counted as `not_shown`.
 pub fn push_counts(
     out: &mut Vec<u8>,
     names: &BinaryArray<i64>,

@@ -1,4 +1,4 @@
-//! The key columns of rows.
+//! Writes the key of a row, as members of a JSON object.
 
 ghost use Rattle.std.specs.Prelude.{◌≡◌, ◌<◌, ◌++◌, length, OnOk};
 ghost use Rattle.diff_report.specs.Sides.{AreSides, IsSide, naming_of, row_of};
@@ -10,7 +10,7 @@ use diff_words::lists::push_gap;
 use polars_arrays_flat::byte_rows::ByteRows;
 use std::alloc::AllocError;
 
-/// Appends the name of a key column and the row's cell in it.
+/// Appends the member `"COLUMN":"CELL"` for a key column of row `i`.
 fn push_key(
     out: &mut Vec<u8>,
     sides: &Sides,
@@ -31,7 +31,8 @@ fn push_key(
     Ok(())
 }
 
-/// Appends the names of the key columns and the row's cells in them.
+/// Appends the member `"COLUMN":"CELL"` for each key column of row `i`, with commas between the
+/// members.
 pub(crate) fn push_keys(
     out: &mut Vec<u8>,
     sides: &Sides,

@@ -1,4 +1,5 @@
-//! The report of a comparison as JSON lines: an object for each difference, and one for the counts.
+//! Writes the report of a comparison as JSON lines: an object for each difference, and one for the
+//! counts.
 #![tactic(auto)]
 
 mod cells;

@@ -1,4 +1,4 @@
-//! Strings of JSON.
+//! Writes JSON strings.
 
 ghost use Rattle.std.specs.Char.{is_control};
 ghost use Rattle.std.specs.Fmt.{digit_glyph};
@@ -9,7 +9,8 @@ ghost use Rattle.diff_json.specs.Strings.{char_text, escape_text, json_string};
 use bstr::ByteSlice;
 use std::alloc::AllocError;
 
-/// Returns the letter that stands after a backslash for a character.
+/// Returns the letter after the backslash in the short JSON escape of a character, such as `n` for
+/// a line feed. Returns `None` if this crate writes no short escape for the character.
 fn letter_of(c: char) -> Option<u8>
     ensures { result ≡ letter_of c }
 {
@@ -23,7 +24,7 @@ fn letter_of(c: char) -> Option<u8>
     }
 }
 
-/// Returns a hexadecimal digit, in small letters.
+/// Returns the hexadecimal digit of `n`, as a lower case letter from 10 on.
 fn hex_digit(n: u8) -> u8
     requires { n < 16 }
     ensures { result ≡ digit_glyph false n }
@@ -31,7 +32,7 @@ fn hex_digit(n: u8) -> u8
     if n < 10 { b'0' + n } else { b'a' + (n - 10) }
 }
 
-/// Appends a character below 256 as `\u` and four hexadecimal digits.
+/// Appends the JSON escape `\u00XX` of a character below U+0100.
 fn push_escape(out: &mut Vec<u8>, c: char) -> Result<(), AllocError>
     requires { c < 256 }
     ensures { OnOk result (out.new.items ≡ out.old.items ++ escape_text c) }
@@ -43,7 +44,8 @@ fn push_escape(out: &mut Vec<u8>, c: char) -> Result<(), AllocError>
     Ok(())
 }
 
-/// Appends a character of a string.
+/// Appends a character as a JSON string has it: escaped if it is a quote, a backslash or a control
+/// character, and else in UTF-8.
 #[tactic(auto, unfolding(crate::specs::Strings::char_text))]
 fn push_char(out: &mut Vec<u8>, c: char) -> Result<(), AllocError>
     ensures { OnOk result (out.new.items ≡ out.old.items ++ char_text c) }
@@ -62,7 +64,7 @@ fn push_char(out: &mut Vec<u8>, c: char) -> Result<(), AllocError>
     Ok(())
 }
 
-/// Appends the string of some bytes.
+/// Appends a JSON string with the characters of `bytes`. Invalid UTF-8 is written as U+FFFD.
 pub fn push_string(out: &mut Vec<u8>, bytes: &[u8]) -> Result<(), AllocError>
     ensures { OnOk result (out.new.items ≡ out.old.items ++ json_string bytes.now) }
 {

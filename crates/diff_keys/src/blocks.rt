@@ -1,12 +1,13 @@
-//! Rows that are looked at block by block.
+//! Divides rows into blocks.
 
 ghost use Rattle.std.specs.Prelude.{◌≡◌, ◌<◌, ◌+◌, min};
 
-/// The number of rows of a block. All of them are looked up before any is worked on, so that few
-/// reads of memory wait for others.
+/// The number of rows in a block. The rows of a block are first all read and then all processed.
+/// The reads don't depend on each other, so the processor can wait for many of them at once.
 const BLOCK: usize = 256;
 
-/// Returns the end of the block that begins at row `start` of `count` rows.
+/// Returns the end (exclusive) of the block that begins at row `start`: 256 rows later, but at most
+/// `count`.
 pub fn block_end(start: usize, count: usize) -> usize
     requires { start < count }
     ensures { result ≡ min count (start + 256) }

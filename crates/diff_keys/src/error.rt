@@ -1,10 +1,10 @@
-//! Why rows are not matched.
+//! The errors of matching rows.
 
 ghost use Rattle.diff_keys.specs.Errors.{IsMemory};
 
 use std::alloc::{AllocError, AllocFailed};
 
-/// The reason why rows are not matched.
+/// An error of matching the rows of two tables.
 #[derive(Clone, Copy)]
 pub enum MatchError {
     /// An allocation failed.

@@ -1,15 +1,15 @@
-//! The hash of a key.
+//! The hash function for keys (FNV-1a, 64 bits).
 
 ghost use Rattle.std.specs.Prelude.{◌≡◌};
 ghost use Rattle.diff_keys.specs.Hashes.{key_hash};
 
-/// The hash of the empty key.
+/// The start value of the hash, which is the hash of an empty key.
 const EMPTY: u64 = 0xcbf2_9ce4_8422_2325;
 
-/// The factor by which a hash is multiplied after each byte.
+/// The prime by which the hash is multiplied after each byte.
 const PRIME: u64 = 0x100_0000_01b3;
 
-/// Returns the hash of a key: FNV-1a of 64 bits.
+/// Returns the 64-bit FNV-1a hash of a key.
 #[inline(always)]
 pub fn key_hash(key: &[u8]) -> u64
     ensures { result ≡ key_hash key.now }

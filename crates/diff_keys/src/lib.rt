@@ -1,6 +1,6 @@
-//! Matches the rows of two tables by their keys. Partners have the same key, and the same number of
-//! rows of that key come before each of them in its table. The first row of a key is thus matched
-//! with the first, and the second with the second.
+//! Matches the rows of two tables by their keys. If several rows of a table have the same key, the
+//! first of them is matched with the first such row of the other table, the second with the second,
+//! and so on. Two matched rows are partners.
 #![tactic(auto)]
 
 pub mod blocks;

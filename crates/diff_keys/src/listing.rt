@@ -1,4 +1,4 @@
-//! Rows that are listed as they are found.
+//! Makes lists of row numbers from the partners that were found.
 
 ghost use Rattle.std.specs.Prelude.{◌≤◌, ◌<◌, ◌^◌, All, length, IfOk};
 ghost use Rattle.diff_keys.specs.Listing.{AreFlags, HasNone, IsOther, IsUnset, ListsFound};
@@ -6,14 +6,15 @@ ghost use Rattle.diff_keys.specs.Rising.{ListsRising};
 
 use std::alloc::{AllocError, Global};
 
-/// Rows and their partners, place by place.
+/// Pairs of partners: `left_rows[k]` and `right_rows[k]`.
 #[derive(Drop)]
 pub(crate) struct Pairs {
     pub(crate) left_rows: Vec<u32>,
     pub(crate) right_rows: Vec<u32>,
 }
 
-/// Lists the rows that found a partner, and their partners.
+/// Returns the pairs of partners in the order of the left rows. `found[i]` is the partner of left
+/// row `i`.
 pub(crate) fn pairs_found(alloc: Global, found: &[Option<u32>]) -> Result<Pairs, AllocError>
     requires { length found.now ≤ 2 ^ 32 }
     ensures { IfOk result
@@ -34,7 +35,8 @@ pub(crate) fn pairs_found(alloc: Global, found: &[Option<u32>]) -> Result<Pairs,
     })
 }
 
-/// Returns the rows that found no partner, in ascending order.
+/// Returns the left rows without a partner, in ascending order. `found[i]` is the partner of left
+/// row `i`.
 pub(crate) fn rows_alone(alloc: Global, found: &[Option<u32>]) -> Result<Vec<u32>, AllocError>
     requires { length found.now ≤ 2 ^ 32 }
     ensures { IfOk result
@@ -49,7 +51,7 @@ pub(crate) fn rows_alone(alloc: Global, found: &[Option<u32>]) -> Result<Vec<u32
     Ok(alone)
 }
 
-/// Returns a flag for each number below a count. It is set if the number is among `rows`.
+/// Returns `count` flags. Flag `j` is set if `rows` contains `j`.
 fn flags_of(alloc: Global, count: usize, rows: &[u32]) -> Result<Vec<bool>, AllocError>
     requires { All (λ j. j < count) rows.now }
     ensures { IfOk result (λ flags. AreFlags rows.now count flags.items) }
@@ -61,7 +63,7 @@ fn flags_of(alloc: Global, count: usize, rows: &[u32]) -> Result<Vec<bool>, Allo
     Ok(is_listed)
 }
 
-/// Lists the places of the flags that are not set.
+/// Returns the indices of the flags that are not set, in ascending order.
 fn places_unset(alloc: Global, flags: &[bool]) -> Result<Vec<u32>, AllocError>
     requires { length flags.now ≤ 2 ^ 32 }
     ensures { IfOk result
@@ -76,7 +78,7 @@ fn places_unset(alloc: Global, flags: &[bool]) -> Result<Vec<u32>, AllocError>
     Ok(places)
 }
 
-/// Lists the numbers below a count that are not among these.
+/// Returns the numbers below `count` that `rows` does not contain, in ascending order.
 pub(crate) fn other_rows(alloc: Global, count: usize, rows: &[u32]) -> Result<Vec<u32>, AllocError>
     requires few { count ≤ 2 ^ 32 }
     requires within { All (λ j. j < count) rows.now }

@@ -1,4 +1,4 @@
-//! The rows of two tables, matched by their keys.
+//! Matches the rows of two tables by their keys.
 
 ghost use Rattle.std.specs.Prelude.{IfOk, MatchResult};
 ghost use Rattle.diff_keys.specs.Errors.{AreFew, IsMatchFault};
@@ -10,24 +10,24 @@ use crate::partners::partners;
 use polars_arrays_flat::byte_rows::ByteRows;
 use std::alloc::{AllocError, Global};
 
-/// The rows of two tables, matched: row `left_rows[k]` of the left one and row `right_rows[k]` of
-/// the right one are partners.
+/// The result of matching two tables. Row `left_rows[k]` of the left table and row `right_rows[k]`
+/// of the right table are partners. Rows are numbered from 0.
 #[derive(Drop)]
 pub struct Matching {
-    /// The left rows that have a partner, in rising order.
+    /// The left rows that have a partner, in ascending order.
     pub left_rows: Vec<u32>,
-    /// The partner of each of them.
+    /// For each entry of `left_rows`, its partner in the right table.
     pub right_rows: Vec<u32>,
-    /// The left rows that have no partner, in rising order.
+    /// The left rows without a partner, in ascending order.
     pub removed: Vec<u32>,
-    /// The right rows that have no partner, in rising order.
+    /// The right rows without a partner, in ascending order.
     pub added: Vec<u32>,
 }
 
-/// The most rows that a table may have, so that their numbers have 32 bits.
+/// The most rows that a table may have. Row numbers are stored in 32 bits.
 const MOST_ROWS: usize = 1 << 32;
 
-/// Matches the rows of tables that have few enough of them.
+/// Matches the rows of two tables of at most 2^32 rows each. The only error is a failed allocation.
 fn match_few<L: ByteRows, R: ByteRows>(
     alloc: Global,
     left: &L,
@@ -52,8 +52,11 @@ fn match_few<L: ByteRows, R: ByteRows>(
     })
 }
 
-/// Matches rows by their keys. Fails with `TooManyRows` where a table has more than 2^32 rows, and
-/// else only with `Memory`.
+/// Matches the rows of two tables by their keys. `left` and `right` have the keys of all rows as
+/// their strings.
+///
+/// Fails with `TooManyRows` if a table has more than 2^32 rows, and with `Memory` if an allocation
+/// fails.
 pub fn match_rows<L: ByteRows, R: ByteRows>(
     alloc: Global,
     left: &L,

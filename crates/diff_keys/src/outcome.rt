@@ -5,17 +5,17 @@ ghost use Rattle.diff_keys.specs.Outcome.{outcome_of};
 
 use crate::matching::Matching;
 
-/// The outcome of a comparison of two inputs.
+/// The outcome of comparing two inputs.
 #[derive(Clone, Copy)]
 pub enum Outcome {
-    /// The inputs are the same.
+    /// The inputs have no difference.
     Same,
-    /// The inputs differ.
+    /// The inputs have a difference.
     Different,
 }
 
-/// Returns `Same` where no row is changed, removed or added and the columns are the same too, and
-/// else `Different`.
+/// Returns `Same` if `changed`, `removed` and `added` are empty and `same_columns` is true, and
+/// else `Different`. `changed` lists the matched pairs that differ.
 pub fn outcome_of(matching: &Matching, changed: &[usize], same_columns: bool) -> Outcome
     ensures { result ≡ outcome_of matching.now changed.now same_columns }
 {

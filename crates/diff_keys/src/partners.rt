@@ -1,4 +1,4 @@
-//! The partner of each row of a table.
+//! Finds the partner of each left row.
 
 ghost use Rattle.std.specs.Prelude.{◌≡◌, ◌<◌, ◌≤◌, ◌^◌, ℕ, All, length, map, vec_len, get_or, None};
 ghost use Rattle.std.specs.Prelude.{IfOk, IfSome};
@@ -11,7 +11,8 @@ use crate::waiting::{Waiting, all_waiting, class_of};
 use polars_arrays_flat::byte_rows::ByteRows;
 use std::alloc::{AllocError, Global};
 
-/// Returns the class of each left row from `start` up to `end`, of `count` classes.
+/// Returns the hash class of the key of each left row in `start..end`. `count` is the number of
+/// classes.
 fn classes_for<L: ByteRows>(
     alloc: Global,
     left: &L,
@@ -32,7 +33,7 @@ fn classes_for<L: ByteRows>(
     Ok(classes)
 }
 
-/// Returns the first waiting row of each of these classes.
+/// Returns for each of `classes` its first waiting row, or `None` if no row of the class waits.
 fn heads_of(
     alloc: Global,
     classes: &[usize],
@@ -49,7 +50,7 @@ fn heads_of(
     Ok(rows)
 }
 
-/// Returns a row if it has this key.
+/// Returns `row` if it is a row with this key, and else `None`.
 #[inline(always)]
 fn row_of_key<R: ByteRows>(keys: &R, row: Option<u32>, key: &[u8]) -> Option<u32>
     requires { IfSome row (λ j. j < length (R.strings keys.now)) }
@@ -62,8 +63,8 @@ fn row_of_key<R: ByteRows>(keys: &R, row: Option<u32>, key: &[u8]) -> Option<u32
     None
 }
 
-/// Returns for each left row from `start` up to `end` the right row that `rows` has for it, if that
-/// row has its key.
+/// Returns for each left row in `start..end` a right row with the same key, or `None`. Only the
+/// right row `rows[i - start]` is tried for left row `i`.
 fn guesses_for<L: ByteRows, R: ByteRows>(
     alloc: Global,
     left: &L,
@@ -85,7 +86,8 @@ fn guesses_for<L: ByteRows, R: ByteRows>(
     Ok(guesses)
 }
 
-/// Appends the partners of the left rows from `start` up to `end`.
+/// Appends the partners of the left rows in `start..end` to `found`, and removes these partners
+/// from `waiting`. `guesses` has right rows that are known to have the key (`guesses_for`).
 fn push_partners<L: ByteRows, R: ByteRows>(
     found: &mut Vec<Option<u32>>,
     left: &L,
@@ -114,8 +116,9 @@ fn push_partners<L: ByteRows, R: ByteRows>(
     Ok(())
 }
 
-/// Appends the partners of a block of left rows. All right rows that the keys lead to are read
-/// before any is taken, so that few reads wait for others.
+/// Appends the partners of the left rows in `start..end` to `found`. First the right rows to
+/// compare with are read for all of these left rows. The reads don't depend on each other, so the
+/// processor can wait for many of them at once.
 fn push_block<L: ByteRows, R: ByteRows>(
     alloc: Global,
     found: &mut Vec<Option<u32>>,
@@ -139,7 +142,7 @@ fn push_block<L: ByteRows, R: ByteRows>(
     push_partners(found, left, start, end, right, waiting, &classes, &guesses)
 }
 
-/// Appends the partners of all left rows, block by block.
+/// Appends the partners of all left rows to `found`, block by block.
 fn push_all<L: ByteRows, R: ByteRows>(
     alloc: Global,
     found: &mut Vec<Option<u32>>,
@@ -161,7 +164,8 @@ fn push_all<L: ByteRows, R: ByteRows>(
     Ok(())
 }
 
-/// Returns for each left row its partner among the right rows, or `None`.
+/// Returns for each left row its partner, as the number of a right row, or `None` if it has no
+/// partner.
 pub(crate) fn partners<L: ByteRows, R: ByteRows>(
     alloc: Global,
     left: &L,

@@ -1,4 +1,4 @@
-//! Keys that come twice.
+//! Finds two rows with the same key.
 
 ghost use Rattle.std.specs.Prelude.{MatchResult};
 ghost use Rattle.diff_keys.specs.Errors.{IsMemory};
@@ -9,7 +9,7 @@ use polars_arrays_flat::byte_rows::ByteRows;
 use std::alloc::Global;
 use std::collections::HashMap;
 
-/// Two rows that have one key.
+/// Two rows of a table with the same key.
 #[derive(Clone, Copy)]
 pub struct Twice {
     /// The earlier row.
@@ -18,8 +18,8 @@ pub struct Twice {
     pub again: usize,
 }
 
-/// Finds the first row whose key an earlier row has, and that earlier row. The one error is
-/// `Memory`.
+/// Returns the first row whose key an earlier row has, together with the earlier row. Returns
+/// `None` if all keys are different. The only error is `Memory`.
 pub fn first_twice<K: ByteRows>(alloc: Global, keys: &K) -> Result<Option<Twice>, MatchError>
     ensures { MatchResult result (TellsFirstTwice (K.strings keys.now)) IsMemory }
 {

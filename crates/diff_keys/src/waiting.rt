@@ -1,4 +1,4 @@
-//! The rows of a table that wait for a partner.
+//! The right rows that still have no partner.
 
 ghost use Rattle.std.specs.Prelude.{◌≡◌, ◌≢◌, ◌<◌, ◌≤◌, ◌^◌, ℕ, Some, None, get_or, length, IfOk};
 ghost use Rattle.std.specs.Prelude.{IfSome};
@@ -9,20 +9,20 @@ use crate::hash::key_hash;
 use polars_arrays_flat::byte_rows::ByteRows;
 use std::alloc::{AllocError, Global};
 
-/// The rows of a table that wait for a partner. Keys fall into classes by their hashes, and the
-/// rows of each class are chained in rising order.
+/// The right rows that still have no partner. The rows are divided into classes by the hashes of
+/// their keys. The rows of a class form a linked list, in ascending order.
 #[derive(Drop)]
 pub(crate) struct Waiting {
-    // The first row of each class.
+    // The first row of each class, or `None` if the class has no rows.
     pub(crate) heads: Vec<Option<u32>>,
-    // For each row the next one of its class.
+    // For each row the next row of its class, or `None` if it is the last one.
     pub(crate) next: Vec<Option<u32>>,
 }
 
-/// The number of classes for each row of a table, so that few rows share a class.
+/// The number of classes per row of the table. With 4, few rows share a class.
 const CLASSES: usize = 4;
 
-/// Returns the class of a key, of `count` classes.
+/// Returns the class of a key: its hash modulo `count`, the number of classes.
 #[inline(always)]
 pub(crate) fn class_of(key: &[u8], count: usize) -> usize
     requires { 0 < count }
@@ -31,7 +31,7 @@ pub(crate) fn class_of(key: &[u8], count: usize) -> usize
     (key_hash(key) % count as u64) as usize
 }
 
-/// Returns the chains of all rows of a table: each still waits for a partner.
+/// Creates the lists for all rows of a table. No row has a partner yet.
 pub(crate) fn all_waiting<R: ByteRows>(alloc: Global, keys: &R) -> Result<Waiting, AllocError>
     requires { length (R.strings keys.now) ≤ 2 ^ 32 }
     ensures { IfOk result
@@ -52,7 +52,7 @@ pub(crate) fn all_waiting<R: ByteRows>(alloc: Global, keys: &R) -> Result<Waitin
 }
 
 impl Waiting {
-    /// Returns the first row of a class.
+    /// Returns the first row of a class, or `None` if the class has no rows.
     #[inline(always)]
     pub(crate) fn head(&self, class: usize) -> Option<u32>
         requires { class < length self.now.heads.items }
@@ -61,8 +61,9 @@ impl Waiting {
         self.heads[class]
     }
 
-    /// Takes the first row of a key out of those that wait. `class` is that of the key, and `guess`
-    /// a row of the key, if one is known.
+    /// Removes the first waiting row that has this key, and returns it. Returns `None` if no
+    /// waiting row has the key. `class` is the class of the key. `guess` is a row that is known to
+    /// have the key, or `None`; it only saves a comparison.
     #[inline(always)]
     pub(crate) fn take<R: ByteRows>(
         &mut self,
@@ -88,8 +89,8 @@ impl Waiting {
         self.take_behind(keys, key, head)
     }
 
-    /// Takes the first row of a key out of those that wait after the first one of its class, which
-    /// has another key.
+    /// Removes the first row with this key after `head`, and returns it, or `None` if there is
+    /// none. `head` is the first row of the class of the key, and has another key.
     #[inline(never)]
     fn take_behind<R: ByteRows>(&mut self, keys: &R, key: &[u8], head: u32) -> Option<u32>
         requires waiting { (left : Keys) × (i : ℕ)

@@ -1,17 +1,17 @@
-//! Why a text is not read as a report.
+//! The errors of reading a report.
 
 ghost use Rattle.diff_lines.specs.Errors.{IsMemory};
 
 use std::alloc::{AllocError, AllocFailed};
 use thiserror::Error;
 
-/// The reason why a text is not read as a report.
+/// An error of reading a text as a report.
 #[derive(Clone, Copy, Debug, Drop, Error, PartialEq, Eq)]
 pub enum LineError {
     /// An allocation failed.
     #[error("out of memory")]
     Memory,
-    /// A line is no JSON, or no line of a report.
+    /// A line is not JSON, or is not a line of a report.
     #[error("no report of differences")]
     NoReport,
 }

@@ -1,4 +1,4 @@
-//! Reports as JSON lines, read for other forms of them.
+//! Reads reports in JSON lines, for the programs that convert reports to other formats.
 #![tactic(auto)]
 
 pub mod error;

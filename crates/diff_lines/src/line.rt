@@ -1,4 +1,4 @@
-//! A line of a report.
+//! Reads a line of a report.
 
 ghost use Rattle.std.specs.Prelude.{◌≡◌, Err, IfOk, None, Some};
 ghost use Rattle.json.specs.Tree.{HasNumbers};
@@ -10,26 +10,26 @@ use crate::parts::string_at;
 use json::{Error, Reader, Scratch, Value};
 use std::alloc::Global;
 
-/// The greatest depth to which a line may nest. It is some levels more than for a document, since a
-/// document may be a part of a line.
+/// The greatest nesting depth of a line. It is greater than that of documents, since a line can
+/// contain parts of documents.
 const MOST_DEPTH: usize = 256;
 
-/// The kind of a line of a report.
+/// The kind of a line of a report, given by its member `kind`.
 #[derive(Clone, Copy)]
 pub enum Kind {
-    /// A column that only one file has.
+    /// A line about a column that only one file has.
     Column,
-    /// A row that changed.
+    /// A line about a changed row.
     Changed,
-    /// A row that only the left file has.
+    /// A line about a row that only the left file has.
     Removed,
-    /// A row that only the right file has.
+    /// A line about a row that only the right file has.
     Added,
-    /// The counts.
+    /// The line with the counts.
     Counts,
 }
 
-/// Returns the kind of line that a word names.
+/// Returns the kind with this name, or `None` if no kind has it.
 #[tactic(auto, unfolding(crate::specs::Lines::kind_named))]
 fn kind_named(word: &str) -> Option<Kind>
     ensures { result ≡ kind_named word.now }
@@ -52,7 +52,8 @@ fn kind_named(word: &str) -> Option<Kind>
     None
 }
 
-/// Returns the JSON value of a line.
+/// Parses a line as a JSON value. Fails with `NoReport` if the line is not a single JSON value or
+/// nests deeper than 256 levels, and with `Memory` if an allocation fails.
 fn value_of<'a>(
     alloc: Global,
     line: &'a str,
@@ -76,10 +77,11 @@ fn value_of<'a>(
     Ok(value)
 }
 
-/// Reads a line of a report, and returns its kind and its value. `scratch` is kept from line to
-/// line.
+/// Reads a line of a report, and returns its kind and its JSON value. `scratch` is the memory of
+/// the JSON reader, and can be reused for each line.
 ///
-/// Fails where the line is no JSON, nests deeper than 256 or has no kind.
+/// Fails with `NoReport` if the line is not JSON, nests deeper than 256 levels or has no known
+/// `kind`, and with `Memory` if an allocation fails.
 #[tactic(auto, using(crate::specs::LineLaws::line_known, crate::specs::LineLaws::line_unknown, crate::specs::LineLaws::line_broken))]
 pub fn read_line<'a>(
     alloc: Global,

@@ -1,4 +1,4 @@
-//! The parts of a line of a report.
+//! Looks up members of a JSON line.
 
 ghost use Rattle.std.specs.Prelude.{◌≡◌, IfSome, option_and_then, option_map};
 ghost use Rattle.json.specs.Find.{as_array, as_object, get};
@@ -8,7 +8,8 @@ ghost use Rattle.diff_lines.specs.Parts.{number_at, string_at};
 
 use json::Value;
 
-/// Returns the value of the last member with this name, if there is one.
+/// Returns the value of the member `name`, or `None` if `value` is no object with this member. If
+/// several members have this name, the last one counts.
 pub fn part_of<'v, 'a>(value: &'v Value<'a>, name: &str) -> Option<&'v Value<'a>>
     requires { HasNumbers (value_view value.now) }
     ensures found { option_map (λ v. value_view v.now) result
@@ -18,7 +19,8 @@ pub fn part_of<'v, 'a>(value: &'v Value<'a>, name: &str) -> Option<&'v Value<'a>
     value.get(name)
 }
 
-/// Returns the members of a part that is an object.
+/// Returns the members of the object that is the member `name` of `value`, or `None` if there is no
+/// such object.
 pub fn members_at<'v, 'a>(value: &'v Value<'a>, name: &str) -> Option<&'v Vec<(&'a str, Value<'a>)>>
     requires { HasNumbers (value_view value.now) }
     ensures found { option_map (λ v. members_view v.now.items) result
@@ -33,7 +35,8 @@ pub fn members_at<'v, 'a>(value: &'v Value<'a>, name: &str) -> Option<&'v Vec<(&
     }
 }
 
-/// Returns the items of a part that is an array.
+/// Returns the items of the array that is the member `name` of `value`, or `None` if there is no
+/// such array.
 pub fn items_at<'v, 'a>(value: &'v Value<'a>, name: &str) -> Option<&'v Vec<Value<'a>>>
     requires { HasNumbers (value_view value.now) }
     ensures found { option_map (λ v. items_view v.now.items) result
@@ -48,7 +51,8 @@ pub fn items_at<'v, 'a>(value: &'v Value<'a>, name: &str) -> Option<&'v Vec<Valu
     }
 }
 
-/// Returns the text of a part that is a number, or an empty text.
+/// Returns the text of the number that is the member `name` of `value`, or an empty text if there
+/// is no such number.
 #[tactic(auto, unfolding(crate::specs::Parts::number_at))]
 pub fn number_at<'a>(value: &Value<'a>, name: &str) -> &'a str
     ensures { result.now ≡ number_at name.now (value_view value.now) }
@@ -62,7 +66,8 @@ pub fn number_at<'a>(value: &Value<'a>, name: &str) -> &'a str
     }
 }
 
-/// Returns the text of a part that is a string, or an empty text.
+/// Returns the string that is the member `name` of `value`, or an empty text if there is no such
+/// string.
 #[tactic(auto, unfolding(crate::specs::Parts::string_at))]
 pub fn string_at<'a>(value: &Value<'a>, name: &str) -> &'a str
     ensures { result.now ≡ string_at name.now (value_view value.now) }

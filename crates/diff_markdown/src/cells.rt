@@ -1,4 +1,4 @@
-//! The texts in the cells of a table.
+//! Writes the texts in the cells of the Markdown table.
 
 ghost use Rattle.std.specs.List.{list_all};
 ghost use Rattle.std.specs.Prelude.{◌≡◌, ◌++◌, [], OnOk};
@@ -14,7 +14,8 @@ use diff_lines::parts::{members_at, number_at, part_of};
 use json::{Value, to_vec};
 use std::alloc::{AllocError, Global};
 
-/// Appends a value as JSON that stays within a code span.
+/// Appends a value as JSON. Backquotes and bars are escaped, so the text can be inside a code span
+/// in a table cell.
 #[tactic(auto, unfolding(crate::specs::Cells::value_text))]
 fn push_value(alloc: Global, out: &mut Vec<u8>, value: &Value<'_>) -> Result<(), AllocError>
     requires { HasNumbers (value_view value.now) }
@@ -25,8 +26,9 @@ fn push_value(alloc: Global, out: &mut Vec<u8>, value: &Value<'_>) -> Result<(),
     Ok(())
 }
 
-/// Returns whether a byte may stand in a word. The byte 194 may not: the characters from U+0080 to
-/// U+00BF begin with it, and some of these are control characters.
+/// Returns whether a name with this byte may be shown without quotes. Blanks, quotes, commas, `=`,
+/// backslashes, backquotes, bars and control characters need quotes. So does the byte 194:
+/// characters from U+0080 to U+00BF begin with it, and some of these are control characters.
 fn is_word_byte(byte: u8) -> bool
     ensures { result ≡ is_word_byte byte }
 {
@@ -41,21 +43,22 @@ fn is_word_byte(byte: u8) -> bool
         && byte != 194
 }
 
-/// Returns whether each byte may stand in a word.
+/// Returns whether `is_word_byte` holds for each byte.
 fn are_word_bytes(bytes: &[u8]) -> bool
     ensures { result ≡ list_all is_word_byte bytes.now }
 {
     bytes.iter().all(|byte| is_word_byte(*byte))
 }
 
-/// Returns whether a byte string is a word.
+/// Returns whether a name may be shown without quotes: it isn't empty, and `is_word_byte` holds for
+/// each of its bytes.
 fn is_word(bytes: &[u8]) -> bool
     ensures { result ≡ is_word bytes.now }
 {
     !bytes.is_empty() && are_word_bytes(bytes)
 }
 
-/// Appends a name unchanged if it is a word, and otherwise as a JSON string.
+/// Appends a name: without quotes if `is_word` holds, and else as a JSON string.
 #[tactic(auto, unfolding(crate::specs::Cells::name_text))]
 fn push_name(alloc: Global, out: &mut Vec<u8>, name: &str) -> Result<(), AllocError>
     ensures { OnOk result (out.new.items ≡ out.old.items ++ name_text name.now) }
@@ -68,7 +71,7 @@ fn push_name(alloc: Global, out: &mut Vec<u8>, name: &str) -> Result<(), AllocEr
     Ok(())
 }
 
-/// Appends a name within a code span.
+/// Appends a name in a code span (see `push_name`).
 pub(crate) fn push_name_cell(alloc: Global, out: &mut Vec<u8>, name: &str) -> Result<(), AllocError>
     ensures { OnOk result (out.new.items ≡ out.old.items ++ name_cell name.now) }
 {
@@ -78,8 +81,8 @@ pub(crate) fn push_name_cell(alloc: Global, out: &mut Vec<u8>, name: &str) -> Re
     Ok(())
 }
 
-/// Appends the value that `change` has on a side, `left` or `right`, in a code span, or the word
-/// `missing` if it has none.
+/// Appends the value that `change` has on a side (`left` or `right`) as JSON in a code span.
+/// Appends `missing` if it has no member of this name.
 pub(crate) fn push_side(
     alloc: Global,
     out: &mut Vec<u8>,
@@ -104,7 +107,7 @@ pub(crate) fn push_side(
     }
 }
 
-/// Appends a member within a code span.
+/// Appends a member of an object as `name=value` in a code span.
 #[tactic(auto, unfolding(crate::specs::Cells::pair_cell))]
 fn push_pair(
     alloc: Global,
@@ -124,7 +127,7 @@ fn push_pair(
     Ok(())
 }
 
-/// Appends members one after another, with commas between them.
+/// Appends each of `members` as `name=value` in a code span, with commas between them.
 fn push_pairs(
     alloc: Global,
     out: &mut Vec<u8>,
@@ -143,7 +146,8 @@ fn push_pairs(
     Ok(())
 }
 
-/// Appends the members of a part that is an object.
+/// Appends the members of the object that is the member `name` of `value`, each in a code span.
+/// Appends nothing if this member is no object.
 #[tactic(auto, unfolding(crate::specs::Cells::pairs_cell))]
 pub(crate) fn push_pairs_cell(
     alloc: Global,
@@ -161,7 +165,8 @@ pub(crate) fn push_pairs_cell(
     }
 }
 
-/// Appends the number that a member is, as it is written.
+/// Appends the number that is the member `name` of `value`, with its digits unchanged. Appends
+/// nothing if this member is no number.
 pub(crate) fn push_number(
     out: &mut Vec<u8>,
     value: &Value<'_>,

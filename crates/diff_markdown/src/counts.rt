@@ -1,4 +1,4 @@
-//! The counts in the head of a report.
+//! Writes the sentences with the counts, before the table.
 
 ghost use Rattle.std.specs.Prelude.{◌≡◌, ◌++◌, OnOk};
 ghost use Rattle.json.specs.Tree.{HasNumbers};
@@ -12,7 +12,7 @@ use diff_lines::parts::number_at;
 use json::Value;
 use std::alloc::{AllocError, Global};
 
-/// Appends the number of rows of each kind.
+/// Appends the numbers of changed, removed, added and equal rows.
 #[tactic(auto, unfolding(crate::specs::Counts::kinds_text))]
 fn push_kinds(out: &mut Vec<u8>, counts: &Value<'_>) -> Result<(), AllocError>
     ensures { OnOk result (out.new.items ≡ out.old.items ++ kinds_text (value_view counts.now)) }
@@ -29,7 +29,8 @@ fn push_kinds(out: &mut Vec<u8>, counts: &Value<'_>) -> Result<(), AllocError>
     Ok(())
 }
 
-/// Appends the number of cells that differ in each column, if any does.
+/// Appends the numbers of differing cells by column. `pairs` is the text of these numbers. Appends
+/// nothing if `pairs` is empty.
 fn push_columns(out: &mut Vec<u8>, pairs: &[u8]) -> Result<(), AllocError>
     ensures { OnOk result (out.new.items ≡ out.old.items ++ columns_note pairs.now) }
 {
@@ -42,7 +43,8 @@ fn push_columns(out: &mut Vec<u8>, pairs: &[u8]) -> Result<(), AllocError>
     Ok(())
 }
 
-/// Appends the number of lines of each file that are passed over, if the report has these counts.
+/// Appends the number of skipped lines of each file. Appends nothing if the member `left_skipped`
+/// of `counts` is no number.
 #[tactic(auto, unfolding(crate::specs::Counts::skipped_note))]
 fn push_skipped(out: &mut Vec<u8>, counts: &Value<'_>) -> Result<(), AllocError>
     ensures { OnOk result (out.new.items ≡ out.old.items ++ skipped_note (value_view counts.now)) }
@@ -58,7 +60,8 @@ fn push_skipped(out: &mut Vec<u8>, counts: &Value<'_>) -> Result<(), AllocError>
     Ok(())
 }
 
-/// Appends the number of differences that the report leaves out, if it leaves out any.
+/// Appends the number of differences that the report leaves out. `count` is its text. Appends
+/// nothing if `count` is `0`.
 fn push_hidden(out: &mut Vec<u8>, count: &str) -> Result<(), AllocError>
     ensures { OnOk result (out.new.items ≡ out.old.items ++ hidden_note count.now) }
 {
@@ -71,7 +74,7 @@ fn push_hidden(out: &mut Vec<u8>, count: &str) -> Result<(), AllocError>
     Ok(())
 }
 
-/// Appends the counts of a report.
+/// Appends all counts of a report. `counts` is the JSON line of the counts.
 #[tactic(auto, unfolding(crate::specs::Counts::counts_text))]
 pub(crate) fn push_counts(
     alloc: Global,

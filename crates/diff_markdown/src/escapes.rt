@@ -1,4 +1,4 @@
-//! Texts that stay within their code spans and cells.
+//! Escapes texts, so that they can't end the code span or the table cell that they are in.
 
 ghost use Rattle.std.specs.Fmt.{digit_glyph};
 ghost use Rattle.std.specs.Prelude.{◌≡◌, ◌<◌, ◌++◌, false, get_or, OnOk};
@@ -7,21 +7,22 @@ ghost use Rattle.diff_markdown.specs.Escapes.{unicode_escape};
 
 use std::alloc::AllocError;
 
-/// Returns whether two bytes are a control character from U+0080 to U+009F in UTF-8.
+/// Returns whether two bytes are the UTF-8 encoding of a control character from U+0080 to U+009F.
 fn is_high_control(first: u8, second: u8) -> bool
     ensures { result ≡ is_high_control first second }
 {
     first == 194 && 127 < second && second < 160
 }
 
-/// Returns whether a byte after another one is a mark of Markdown or ends a control character.
+/// Returns whether `byte` is written as an escape: a backquote, a bar, the control character
+/// U+007F, or the second byte of a control character whose first byte is `before`.
 fn is_escaped(before: u8, byte: u8) -> bool
     ensures { result ≡ is_escaped before byte }
 {
     byte == b'`' || byte == b'|' || byte == 127 || is_high_control(before, byte)
 }
 
-/// Returns a hexadecimal digit, in small letters.
+/// Returns the hexadecimal digit of `n`, as a lower case letter from 10 on.
 fn hex_digit(n: u8) -> u8
     requires { n < 16 }
     ensures { result ≡ digit_glyph false n }
@@ -29,7 +30,7 @@ fn hex_digit(n: u8) -> u8
     if n < 10 { b'0' + n } else { b'a' + (n - 10) }
 }
 
-/// Appends a character below 256 as `\u` and four hexadecimal digits.
+/// Appends the JSON escape `\u00XX` of the character with this code.
 fn push_escape(out: &mut Vec<u8>, code: u8) -> Result<(), AllocError>
     ensures { OnOk result (out.new.items ≡ out.old.items ++ unicode_escape code) }
 {
@@ -39,7 +40,9 @@ fn push_escape(out: &mut Vec<u8>, code: u8) -> Result<(), AllocError>
     Ok(())
 }
 
-/// Appends the text that stands for a byte between two others.
+/// Appends `byte` or its escape. `before` and `after` are the bytes next to it in the text. Appends
+/// nothing for the first byte of a control character, since the escape of its second byte stands
+/// for both.
 #[tactic(auto, unfolding(crate::specs::Escapes::safe_byte))]
 fn push_byte(out: &mut Vec<u8>, before: u8, byte: u8, after: u8) -> Result<(), AllocError>
     ensures { OnOk result (out.new.items ≡ out.old.items ++ safe_byte before byte after) }
@@ -55,14 +58,15 @@ fn push_byte(out: &mut Vec<u8>, before: u8, byte: u8, after: u8) -> Result<(), A
     Ok(())
 }
 
-/// Returns byte `i`, or 0 where there is none.
+/// Returns byte `i`, or 0 if `bytes` is shorter.
 fn byte_at(bytes: &[u8], i: usize) -> u8
     ensures { result ≡ get_or bytes.now i 0 }
 {
     if i < bytes.len() { bytes[i] } else { 0 }
 }
 
-/// Appends a text that ends no code span and no cell.
+/// Appends a text without backquotes, bars and control characters above U+007E: these become JSON
+/// escapes.
 pub(crate) fn push_safe(out: &mut Vec<u8>, text: &[u8]) -> Result<(), AllocError>
     ensures { OnOk result (out.new.items ≡ out.old.items ++ safe text.now) }
 {

@@ -1,4 +1,4 @@
-//! Reports as Markdown, for the texts of pull requests.
+//! Writes reports as Markdown, for example for pull requests.
 #![tactic(auto)]
 
 mod cells;

@@ -1,4 +1,4 @@
-//! The lines of a report.
+//! Converts a JSON line of a report to Markdown.
 
 ghost use Rattle.std.specs.Prelude.{◌≡◌, ◌++◌, Err, IsSome, None, OnOk};
 ghost use Rattle.json.specs.Tree.{HasNumbers};
@@ -13,7 +13,8 @@ use diff_lines::line::{Kind, read_line};
 use json::{Scratch, Value};
 use std::alloc::{AllocError, Global};
 
-/// Appends what a line of a kind adds to the head and to the table.
+/// Appends the Markdown for a line of a report. The counts go to `head`, everything else is a table
+/// row in `rows`.
 fn push_by_kind(
     alloc: Global,
     head: &mut Vec<u8>,
@@ -36,9 +37,11 @@ fn push_by_kind(
     }
 }
 
-/// Appends what a line adds to the head and to the table. `scratch` is kept from line to line.
+/// Reads a JSON line of a report and appends its Markdown: counts to `head`, table rows to `rows`.
+/// `scratch` is the memory of the JSON reader, which all lines share.
 ///
-/// A failure may leave some of it written.
+/// Fails with `NoReport` only if `line` is no line of a report. After an error a part of the
+/// Markdown may be appended.
 pub(crate) fn push_line(
     alloc: Global,
     head: &mut Vec<u8>,

@@ -1,4 +1,4 @@
-//! Reports as Markdown.
+//! Writes the whole report as Markdown.
 
 ghost use Rattle.std.specs.Prelude.{◌≡◌, ◌++◌, All, Err, IsSome, OnOk, map};
 ghost use Rattle.std.specs.Str.Lines.{lines};
@@ -13,7 +13,8 @@ use json::Scratch;
 use std::alloc::{AllocError, Global};
 use std::str::from_utf8;
 
-/// Appends what lines add to the head and to the table.
+/// Reads the JSON lines of a report. Appends the counts to `head` and the table rows to `rows`.
+/// Fails with `NoReport` if one of `lines` is no line of a report.
 fn push_lines(
     alloc: Global,
     head: &mut Vec<u8>,
@@ -35,7 +36,8 @@ fn push_lines(
     Ok(())
 }
 
-/// Appends what the lines of a text add to the head and to the table.
+/// Splits `text` into the JSON lines of a report. Appends the counts to `head` and the table rows
+/// to `rows`. Fails with `NoReport` if a line of `text` is no line of a report.
 fn push_text(
     alloc: Global,
     head: &mut Vec<u8>,
@@ -53,7 +55,7 @@ fn push_text(
     Ok(())
 }
 
-/// Appends a table of rows, if there are any.
+/// Appends the head of the table and its rows. Appends nothing if `rows` is empty.
 fn push_table(out: &mut Vec<u8>, rows: &[u8]) -> Result<(), AllocError>
     ensures { OnOk result (out.new.items ≡ out.old.items ++ table rows.now) }
 {
@@ -65,11 +67,11 @@ fn push_table(out: &mut Vec<u8>, rows: &[u8]) -> Result<(), AllocError>
     Ok(())
 }
 
-/// Appends a report of two files as Markdown. `report` is the report as JSON lines, and the two
-/// names are those of the files.
+/// Appends the report of two files as Markdown. `report` is the same report as JSON lines. `left`
+/// and `right` are the names of the files.
 ///
-/// Fails where a line of the report is no JSON, nests deeper than 256 or has no kind. A failure may
-/// leave some text written.
+/// Fails with `NoReport` only if a line of `report` is not JSON, nests deeper than 256 levels or
+/// has no known kind. After an error `out` may have a part of the report.
 #[tactic(auto, unfolding(crate::specs::Markdown::markdown_of))]
 pub fn push_markdown(
     alloc: Global,

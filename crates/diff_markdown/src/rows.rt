@@ -1,4 +1,4 @@
-//! The rows of a table.
+//! Writes the rows of the Markdown table.
 
 ghost use Rattle.std.specs.Prelude.{◌≡◌, ◌++◌, codes, OnOk, option_and_then};
 ghost use Rattle.json.specs.Find.{as_array, as_object, get};
@@ -13,7 +13,7 @@ use diff_lines::parts::{items_at, members_at, string_at};
 use json::Value;
 use std::alloc::{AllocError, Global};
 
-/// Appends the name of a changed row: its key, or its lines if it has no key.
+/// Appends the key of a changed row, or its line numbers in both files if it has no key.
 #[tactic(auto, unfolding(crate::specs::Rows::row_name))]
 fn push_row_name(alloc: Global, out: &mut Vec<u8>, line: &Value<'_>) -> Result<(), AllocError>
     requires { HasNumbers (value_view line.now) }
@@ -32,7 +32,8 @@ fn push_row_name(alloc: Global, out: &mut Vec<u8>, line: &Value<'_>) -> Result<(
     Ok(())
 }
 
-/// Appends the row of a part that differs.
+/// Appends the table row of one difference. `name` is the key of the changed row. `part` is the
+/// column or path that differs. `change` has the two values as its members `left` and `right`.
 #[tactic(auto, unfolding(crate::specs::Rows::change_row))]
 fn push_change(
     alloc: Global,
@@ -57,7 +58,8 @@ fn push_change(
     Ok(())
 }
 
-/// Appends a row for each part that differs. `changes` has a member for each part, by its name.
+/// Appends a table row for each of `changes`, which are members: the name of a column, and its
+/// change. `name` is the key of the changed row.
 fn push_member_rows(
     alloc: Global,
     out: &mut Vec<u8>,
@@ -74,7 +76,8 @@ fn push_member_rows(
     Ok(())
 }
 
-/// Appends a row for each part that differs. Each of `changes` has the path of its part.
+/// Appends a table row for each of `changes`, which have the path that differs as their member
+/// `path`. `name` is the key of the changed row.
 fn push_item_rows(
     alloc: Global,
     out: &mut Vec<u8>,
@@ -91,7 +94,8 @@ fn push_item_rows(
     Ok(())
 }
 
-/// Appends the rows for a row that changed: one for each part that differs.
+/// Appends the table rows of a changed row: one for each column or path that differs. `line` is the
+/// JSON line of the changed row.
 #[tactic(auto, unfolding(crate::specs::Rows::change_rows))]
 pub(crate) fn push_changed(
     alloc: Global,
@@ -108,7 +112,8 @@ pub(crate) fn push_changed(
     Ok(())
 }
 
-/// Appends the rows of the changes that are an object.
+/// Appends the table rows of a changed row whose `changes` are an object by columns. Appends
+/// nothing if `changes` is no object.
 fn push_changes_in_object(
     alloc: Global,
     out: &mut Vec<u8>,
@@ -125,7 +130,8 @@ fn push_changes_in_object(
     }
 }
 
-/// Appends the rows of the changes that are an array.
+/// Appends the table rows of a changed row whose `changes` are an array of paths. Appends nothing
+/// if `changes` is no array.
 fn push_changes_in_array(
     alloc: Global,
     out: &mut Vec<u8>,
@@ -142,7 +148,8 @@ fn push_changes_in_array(
     }
 }
 
-/// Appends the row for a row that only one file has, with its key and the line at which it begins.
+/// Appends the table row of a row that only one file has: `before`, the key, `between`, the line
+/// number and `behind`.
 #[tactic(auto, unfolding(crate::specs::Rows::lone_row))]
 fn push_lone(
     alloc: Global,
@@ -164,7 +171,7 @@ fn push_lone(
     Ok(())
 }
 
-/// Appends the row for a row that only the left file has.
+/// Appends the table row of a row that only the left file has.
 pub(crate) fn push_removed(
     alloc: Global,
     out: &mut Vec<u8>,
@@ -176,7 +183,7 @@ pub(crate) fn push_removed(
     push_lone(alloc, out, b"| removed | ", b" | | line ", b" | |\n", line)
 }
 
-/// Appends the row for a row that only the right file has.
+/// Appends the table row of a row that only the right file has.
 pub(crate) fn push_added(
     alloc: Global,
     out: &mut Vec<u8>,
@@ -188,7 +195,8 @@ pub(crate) fn push_added(
     push_lone(alloc, out, b"| added | ", b" | | | line ", b" |\n", line)
 }
 
-/// Returns the cells that say which side lacks a column.
+/// Returns the last cells of the table row of a column: `missing` for the file that does not have
+/// the column.
 fn lacking(only_in: &str) -> &'static [u8]
     ensures { result.now ≡ lacking only_in.now }
 {
@@ -199,7 +207,7 @@ fn lacking(only_in: &str) -> &'static [u8]
     }
 }
 
-/// Appends the row for a column that only one file has.
+/// Appends the table row of a column that only one file has.
 #[tactic(auto, unfolding(crate::specs::Rows::column_row))]
 pub(crate) fn push_column(
     alloc: Global,

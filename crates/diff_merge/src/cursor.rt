@@ -1,4 +1,4 @@
-//! Sorted texts that are read row by row.
+//! Reads a sorted CSV text row by row.
 
 ghost use Rattle.std.specs.Prelude.{◌≡◌, [], ◌∷◌, ◌++◌, ℕ, suc, List, IfErr, IfOk, IsSome};
 ghost use Rattle.std.specs.Prelude.{MatchResult, OnOk, unwrap_or};
@@ -24,20 +24,21 @@ use std::cmp::Ordering;
 use std::io::Read;
 use std::mem;
 
-/// The columns of a text to read, the demand on its keys, and its side.
+/// The columns to read from a sorted text, and the check of its keys.
 #[derive(Clone, Copy)]
 pub struct Wanted<'a> {
-    /// The columns whose cells are read.
+    /// The indices of the columns to read.
     pub columns: &'a [usize],
-    /// The key columns, by their places among these.
+    /// The key columns, as indices into `columns`.
     pub keys: &'a [usize],
-    /// `true` if a key that comes twice is an error.
+    /// `true` if two rows with the same key are an error.
     pub unique: bool,
-    /// The side of the text: the left or the right one.
+    /// The side of the text in the comparison, for errors.
     pub side: Side,
 }
 
-/// A text whose keys never fall from row to row, with its next row at hand.
+/// A reader of a CSV text that is sorted by key. The next row is always read ahead. The order of
+/// the keys is checked.
 #[derive(Drop)]
 pub struct Cursor<'a, R> {
     reader: RowReader<R>,
@@ -45,18 +46,19 @@ pub struct Cursor<'a, R> {
     keys: &'a [usize],
     unique: bool,
     side: Side,
-    // The row that was read last. It is the next one, unless there is no next one.
+    // The row that was read last. It is the next row, unless `line` is `None`.
     row: Box<ByteRecord>,
-    // The line at which the next row begins, where there is one.
+    // The line at which the next row begins, or `None` if there is no next row.
     pub(crate) line: Option<u64>,
-    // The number of the next row, from 1 on.
+    // The number of the next row. The first row of the text is 1.
     number: u64,
-    // The key of the next row, and that of the row before it.
+    // The key of the next row (`key`) and the key of the row before it (`before`).
     pub(crate) key: Vec<u8>,
     before: Vec<u8>,
 }
 
-/// Reads the next row of a text.
+/// Reads the next row into `row`. Returns the line at which it begins, or `None` if there are no
+/// more rows. Errors get the side of the text.
 fn read_row<R: Read + Drop>(
     reader: &mut RowReader<R>,
     row: &mut Box<ByteRecord>,
@@ -76,7 +78,9 @@ fn read_row<R: Read + Drop>(
     }
 }
 
-/// Tests that a key may follow the one before it. `lines` are the lines at which their rows begin.
+/// Checks that `key` may follow the key `before`. Fails with `Falls` if it is less, and with
+/// `KeyTwice` if it is equal and `unique` is true. `lines` has the lines at which the rows of both
+/// keys begin.
 fn test_order(
     before: &[u8],
     key: &[u8],
@@ -101,7 +105,7 @@ fn test_order(
 }
 
 impl<'a, R: Read + Drop> Cursor<'a, R> {
-    /// Begins a text, and reads its first row.
+    /// Opens a text, and reads its first row ahead.
     pub fn open(
         alloc: Global,
         source: Source<R>,
@@ -145,7 +149,7 @@ impl<'a, R: Read + Drop> Cursor<'a, R> {
         })
     }
 
-    /// Returns the next row.
+    /// Returns the next row. It stays the next row until `advance` is called.
     pub fn row(&self) -> Row<'_>
         requires { IsSome self.now.line }
         ensures row { seen_of result ≡ next_seen self.now }
@@ -159,8 +163,8 @@ impl<'a, R: Read + Drop> Cursor<'a, R> {
         }
     }
 
-    /// Reads the row after the next one. Fails with `Falls` where its key is less, and with
-    /// `KeyTwice` where it is the same and keys have to be unique.
+    /// Moves on by one row. Fails with `Falls` if the key of the new row is less than the key of
+    /// the row before it, and with `KeyTwice` if the keys are equal but must be unique.
     pub fn advance(&mut self) -> Result<(), MergeError>
         requires { IsSome self.old.line }
         ensures on { MatchResult result

@@ -1,4 +1,4 @@
-//! Why two texts are not merged.
+//! The errors of merging two sorted texts.
 
 ghost use Rattle.diff_merge.specs.Faults.{IsMemory};
 
@@ -7,20 +7,20 @@ use diff_csv::error::CsvError;
 use std::alloc::{AllocError, AllocFailed};
 use thiserror::Error;
 
-/// The reason why two texts are not merged.
+/// An error of merging two sorted texts.
 #[derive(Debug, Drop, Error)]
 pub enum MergeError {
     /// An allocation failed.
     #[error("out of memory")]
     Memory,
-    /// A text can't be read as CSV.
+    /// The text on this side can't be read as CSV.
     #[error("{cause}")]
     Csv { side: Side, cause: CsvError },
-    /// A row has a key that is less than that of the row before it. `line` is where it begins.
+    /// A row has a lesser key than the row before it. `line` is the line at which the row begins.
     #[error("the row at line {line} has a lesser key than the row before it")]
     Falls { side: Side, line: u64 },
-    /// Two adjacent rows have one key, where keys have to be unique. `first` and `again` are the
-    /// lines at which they begin.
+    /// Two adjacent rows have the same key, but keys must be unique. `first` and `again` are the
+    /// lines at which the rows begin.
     #[error("the rows at lines {first} and {again} have one key")]
     KeyTwice { side: Side, first: u64, again: u64 },
 }

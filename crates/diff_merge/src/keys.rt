@@ -1,4 +1,4 @@
-//! The key of a row.
+//! Encodes the key of a row as a byte string.
 
 ghost use Rattle.std.specs.Prelude.{◌≡◌, ◌++◌, OnOk};
 ghost use Rattle.diff_merge.specs.Rows.{cells_of};
@@ -7,7 +7,7 @@ ghost use Rattle.diff_tables.specs.Keys.{escaped, marked, row_key};
 use crate::row::Row;
 use std::alloc::AllocError;
 
-/// Appends a byte, and after a zero also a 1.
+/// Appends a byte. A zero byte is written as 0 1.
 #[inline(always)]
 fn push_byte(out: &mut Vec<u8>, byte: u8) -> Result<(), AllocError>
     ensures { OnOk result (out.new.items ≡ out.old.items ++ marked byte) }
@@ -21,7 +21,7 @@ fn push_byte(out: &mut Vec<u8>, byte: u8) -> Result<(), AllocError>
     Ok(())
 }
 
-/// Appends a byte string so that its end shows: a zero as 0 1, the end as 0 0.
+/// Appends a byte string, with each zero byte written as 0 1, and then the end mark 0 0.
 fn push_escaped(out: &mut Vec<u8>, string: &[u8]) -> Result<(), AllocError>
     ensures { OnOk result (out.new.items ≡ out.old.items ++ escaped string.now) }
 {
@@ -33,7 +33,8 @@ fn push_escaped(out: &mut Vec<u8>, string: &[u8]) -> Result<(), AllocError>
     Ok(())
 }
 
-/// Sets `key` to the key of a row: its cells in the key columns, each with its end.
+/// Sets `key` to the key of a row: the cells in the key columns, each encoded by `push_escaped`.
+/// The order of keys is then that of the cells, column by column.
 pub(crate) fn write_key(
     key: &mut Vec<u8>,
     row: &Row<'_>,

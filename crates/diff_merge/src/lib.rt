@@ -1,5 +1,5 @@
-//! Merges two CSV texts whose rows are sorted by key. It goes row by row and keeps only a few rows
-//! in memory.
+//! Merges two CSV texts whose rows are sorted by key. The texts are read row by row, and only a few
+//! rows are in memory at a time.
 #![tactic(auto)]
 
 pub mod cursor;

@@ -1,4 +1,4 @@
-//! The merge of two sorted texts.
+//! Merges two sorted texts.
 
 ghost use Rattle.std.specs.Prelude.{◌≡◌, ◌+◌, ◌<◌, ◌^◌, [], ℕ, false, List, MatchResult, IfOk};
 ghost use Rattle.std.specs.Prelude.{OnOk, None, Some};
@@ -16,24 +16,24 @@ use crate::sink::Sink;
 use std::cmp::Ordering;
 use std::io::Read;
 
-/// The most steps that are taken.
+/// The most steps that a merge takes. No machine reads this many rows.
 const MOST_STEPS: usize = 1 << 62;
 
-/// The rows that come next in two texts.
+/// The kind of the next step of a merge.
 #[derive(Clone, Copy)]
 pub(crate) enum Step {
-    /// A row of each text. Both rows have one key.
+    /// The next rows of both texts have the same key, and are taken as partners.
     Pair,
-    /// A left row, which has no partner.
+    /// The next left row has no partner, and is taken alone.
     Removed,
-    /// A right row, which has no partner.
+    /// The next right row has no partner, and is taken alone.
     Added,
-    /// No row.
+    /// Both texts have no more rows.
     End,
 }
 
-/// Returns the kind of the next step: the row of the lesser of the two next keys is taken, or both
-/// rows if the keys are the same.
+/// Returns the kind of the next step: the row with the lesser of the two next keys is taken, or
+/// both rows if the keys are equal.
 fn next_step<L: Read + Drop, R: Read + Drop>(left: &Cursor<'_, L>, right: &Cursor<'_, R>) -> Step
     ensures { IsStep (next_key left.now) (next_key right.now) result }
 {
@@ -49,7 +49,8 @@ fn next_step<L: Read + Drop, R: Read + Drop>(left: &Cursor<'_, L>, right: &Curso
     }
 }
 
-/// Passes the next rows of both texts, which have one key, to the sink.
+/// Passes the next rows of both texts to the sink as partners, and advances both texts. The two
+/// rows must have the same key.
 fn take_pair<L: Read + Drop, R: Read + Drop, S: Sink>(
     left: &mut Cursor<'_, L>,
     right: &mut Cursor<'_, R>,
@@ -81,7 +82,7 @@ fn take_pair<L: Read + Drop, R: Read + Drop, S: Sink>(
     Ok(())
 }
 
-/// Passes the next left row, which has no partner, to the sink.
+/// Passes the next left row to the sink as a row without a partner, and advances the left text.
 fn take_removed<L: Read + Drop, R: Read + Drop, S: Sink>(
     left: &mut Cursor<'_, L>,
     right: &Cursor<'_, R>,
@@ -109,7 +110,7 @@ fn take_removed<L: Read + Drop, R: Read + Drop, S: Sink>(
     Ok(())
 }
 
-/// Passes the next right row, which has no partner, to the sink.
+/// Passes the next right row to the sink as a row without a partner, and advances the right text.
 fn take_added<L: Read + Drop, R: Read + Drop, S: Sink>(
     left: &Cursor<'_, L>,
     right: &mut Cursor<'_, R>,
@@ -137,7 +138,8 @@ fn take_added<L: Read + Drop, R: Read + Drop, S: Sink>(
     Ok(())
 }
 
-/// Passes the next row or the next partners to the sink. Returns whether there was a row.
+/// Takes one step: passes the next row, or the next two partners, to the sink. Returns `false` if
+/// both texts have no more rows.
 fn take_step<L: Read + Drop, R: Read + Drop, S: Sink>(
     left: &mut Cursor<'_, L>,
     right: &mut Cursor<'_, R>,
@@ -178,9 +180,9 @@ fn take_step<L: Read + Drop, R: Read + Drop, S: Sink>(
     }
 }
 
-/// Merges two texts from where they are to their ends, and passes their rows to a sink. Fails with
-/// `Falls` where a key is less than the one before it, and with `KeyTwice` where it is the same and
-/// keys have to be unique.
+/// Merges two texts from their current rows to their ends, and passes all these rows to the sink.
+/// Fails with `Falls` if a key is less than the key before it, and with `KeyTwice` if two keys are
+/// equal but must be unique.
 pub fn merge<L: Read + Drop, R: Read + Drop, S: Sink>(
     left: &mut Cursor<'_, L>,
     right: &mut Cursor<'_, R>,

@@ -1,4 +1,4 @@
-//! The rows of two sorted texts, matched by key.
+//! Matches the rows of two sorted texts by key.
 
 ghost use Rattle.std.specs.Prelude.{◌≡◌, [], ℕ, suc, ⊤, List, MatchResult};
 ghost use Rattle.diff_columns.specs.declared.error.Side.TheVariants.{Left, Right};
@@ -15,21 +15,21 @@ use crate::sink::Sink;
 use std::alloc::{AllocError, Global};
 use std::io::Read;
 
-/// The rows of two texts, matched: row `left_rows[k]` of the left one and row `right_rows[k]` of
-/// the right one are partners. Rows are numbered from 0 on.
+/// The result of matching two texts. Row `left_rows[k]` of the left text and row `right_rows[k]` of
+/// the right text are partners. Rows are numbered from 0.
 #[derive(Drop)]
 pub struct Pairing {
-    /// The left rows that have a partner, in rising order.
+    /// The left rows that have a partner, in ascending order.
     pub left_rows: Vec<u64>,
-    /// The partner of each of them.
+    /// For each entry of `left_rows`, its partner in the right text.
     pub right_rows: Vec<u64>,
-    /// The left rows that have no partner, in rising order.
+    /// The left rows without a partner, in ascending order.
     pub removed: Vec<u64>,
-    /// The right rows that have no partner, in rising order.
+    /// The right rows without a partner, in ascending order.
     pub added: Vec<u64>,
 }
 
-/// Returns the number of a row, from 0 on.
+/// Returns the number of a row, counted from 0. `Row::number` counts from 1.
 fn place(row: &Row<'_>) -> u64
     ensures { (n : ℕ) → row.now.number ≡ suc n → result ≡ n }
 {
@@ -62,7 +62,8 @@ impl Sink for Pairing {
     }
 }
 
-/// Matches the rows of two sorted texts by key, from where they are to their ends.
+/// Matches the rows of two sorted texts by key, from their current rows to their ends. Fails as
+/// `merge` does.
 pub fn match_sorted<L: Read + Drop, R: Read + Drop>(
     alloc: Global,
     left: &mut Cursor<'_, L>,

@@ -1,4 +1,4 @@
-//! Rows that a merge reads.
+//! A row that is passed from a merge to a sink.
 
 ghost use Rattle.std.specs.Prelude.{◌≡◌, [], get_or};
 ghost use Rattle.csv.specs.Records.{fields_of};
@@ -7,19 +7,19 @@ ghost use Rattle.diff_merge.specs.Rows.{cells_of};
 use csv::ByteRecord;
 use diff_tables::string_list::StringList;
 
-/// A row that is read: its cells in some columns, its number among the rows of the text, from 1 on,
-/// and the line at which it begins. The cells are its strings.
+/// A row of a text, with its cells in the columns that are read. It is a list of strings: its
+/// cells.
 #[derive(Clone, Copy)]
 pub struct Row<'a> {
     pub(crate) record: &'a ByteRecord,
     pub(crate) columns: &'a [usize],
-    /// The number of the row among those of the text, from 1 on.
+    /// The number of the row in the text. The first row is 1.
     pub number: u64,
-    /// The line at which it begins.
+    /// The line at which the row begins.
     pub line: u64,
 }
 
-/// Returns the field in a column, or an empty one where the record is shorter.
+/// Returns the field with index `column`, or an empty field if the record has fewer fields.
 fn field(record: &ByteRecord, column: usize) -> &[u8]
     ensures { result.now ≡ get_or (fields_of record.now) column [] }
 {
@@ -30,7 +30,7 @@ fn field(record: &ByteRecord, column: usize) -> &[u8]
 }
 
 impl<'a> Row<'a> {
-    /// Returns cell `i`, or an empty one where the row has no such cell.
+    /// Returns cell `i`, or an empty cell if the row has fewer cells.
     #[inline(always)]
     pub fn cell(&self, i: usize) -> &[u8]
         ensures { result.now ≡ get_or (cells_of self.now) i [] }

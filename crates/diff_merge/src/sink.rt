@@ -1,4 +1,4 @@
-//! Sinks, which receive the rows of two texts.
+//! Receives the rows of a merge.
 
 ghost use Rattle.std.specs.Prelude.{[], ◌∷◌, ◌++◌, List, length, OnOk};
 ghost use Rattle.diff_joins.specs.More.{HasAdded, HasPair, HasRemoved};
@@ -8,21 +8,22 @@ ghost use Rattle.diff_merge.specs.Rows.{IsNext, Seen, seen_of};
 use crate::row::Row;
 use std::alloc::AllocError;
 
-/// A receiver of the rows of two texts. It receives partners together, and rows without a partner
-/// one by one, in the order of their keys.
+/// A receiver of the rows that a merge reads. It gets two partners in one call, and each row
+/// without a partner in a call of its own. The rows come in the order of their keys.
 pub trait Sink {
-    // It has received these rows of both texts, matched in this way.
+    // Says that this receiver got these left and right rows, matched in this way.
     ghost holds: { Self → List Seen → List Seen → Matching → Type 0 };
 
-    // It keeps what it was made with.
+    // Relates a receiver to its later state: the parts that no call changes, such as options, are
+    // equal.
     ghost keeps: { Self → Self → Type 0 };
 
-    // What is kept at first, and by each call, is kept in the end.
+    // `keeps` is reflexive and transitive, so it holds from the first call to the last.
     ghost keeps_self: { (a : Self) → keeps a a };
 
     ghost keeps_on: { (a b c : Self) → keeps a b → keeps b c → keeps a c };
 
-    /// Receives the next rows of both texts, which are partners.
+    /// Receives the next row of each text. The two rows are partners.
     fn pair(&mut self, left: &Row<'_>, right: &Row<'_>) -> Result<(), AllocError>
         ensures told { OnOk result
             ((left_rows right_rows : List Seen) (before after : Matching)

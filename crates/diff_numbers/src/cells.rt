@@ -1,4 +1,4 @@
-//! Cells, and the texts that they are compared by.
+//! Converts cells to the texts by which they are compared.
 
 ghost use Rattle.std.specs.Prelude.{◌≡◌, ◌++◌, ◌∷◌, [], ℕ, List, true, false, Err, MatchOption};
 ghost use Rattle.std.specs.Prelude.{OnOk};
@@ -11,7 +11,7 @@ use json::is_number;
 use json_decimals::error::NumberError;
 use json_decimals::numbers::push_normal_number;
 
-/// Returns the text of a cell if it is a number.
+/// Returns the cell as text if it is a number in JSON syntax, and else `None`.
 pub fn number_in(cell: &[u8]) -> Option<&str>
     ensures { MatchOption result (is_number cell.now ≡ false)
         (λ text. IsNumeral cell.now text.now) }
@@ -22,7 +22,8 @@ pub fn number_in(cell: &[u8]) -> Option<&str>
     if is_number(text) { Some(text) } else { None }
 }
 
-/// Appends the normal text of a number, which is made in `room`.
+/// Appends the normal text of a number to `cells`. `room` is memory that is overwritten. Fails if
+/// the exponent has more than 30 digits.
 fn push_number(cells: &mut Strings, room: &mut Vec<u8>, text: &str) -> Result<(), NumberError>
     requires { is_number text.now ≡ true }
     ensures ok { OnOk result
@@ -36,8 +37,9 @@ fn push_number(cells: &mut Strings, room: &mut Vec<u8>, text: &str) -> Result<()
     Ok(())
 }
 
-/// Appends the text that a cell is compared by. Fails where it is a number with a wide exponent,
-/// and numbers count.
+/// Appends the text by which a cell is compared: the normal text if `numeric` is true and the cell
+/// is a number, and else the cell itself. Fails with `WideExponent` only if `numeric` is true and
+/// the cell is a number with an exponent of more than 30 digits.
 pub(crate) fn push_comparable(
     cells: &mut Strings,
     room: &mut Vec<u8>,

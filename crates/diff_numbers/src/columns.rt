@@ -1,4 +1,4 @@
-//! The columns whose numbers count.
+//! Selects the columns whose numbers are compared by value.
 
 ghost use Rattle.std.specs.Prelude.{◌≡◌, IfOk};
 ghost use Rattle.diff_columns.specs.Names.{names_of};
@@ -9,15 +9,15 @@ use polars_arrays_bytes::binary::BinaryArray;
 use polars_arrays_flat::byte_rows::ByteRows;
 use std::alloc::{AllocError, Global};
 
-/// Returns whether a name is among these.
+/// Returns whether `names` contains `name`.
 fn is_named(names: &[&[u8]], name: &[u8]) -> bool
     ensures { result ≡ is_named (names_of names.now) name.now }
 {
     names.contains(&name)
 }
 
-/// Returns for each column whether its numbers are compared by their values. This holds for all
-/// columns except those that are compared as texts.
+/// Returns for each column whether its numbers are compared by value. This is so for all columns
+/// except those that are named in `texts`.
 pub fn number_columns(
     alloc: Global,
     names: &BinaryArray<i64>,

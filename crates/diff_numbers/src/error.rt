@@ -1,4 +1,4 @@
-//! Why a table has no table to compare by.
+//! The errors of converting a table to comparable texts.
 
 ghost use Rattle.diff_numbers.specs.Errors.{IsMemory};
 
@@ -6,13 +6,14 @@ use polars_arrays_bits::error::ComputeError;
 use std::alloc::AllocError;
 use thiserror::Error;
 
-/// The reason why a table has no table to compare by.
+/// An error of converting a table to comparable texts.
 #[derive(Clone, Copy, Debug, Drop, Error, PartialEq, Eq)]
 pub enum ComparableError {
     /// An allocation failed.
     #[error("out of memory")]
     Memory,
-    /// A cell is a number whose exponent has more than 30 digits, its leading zeros not counted.
+    /// A cell is a number whose exponent has more than 30 digits, leading zeros not counted. `row`
+    /// and `column` are its indices in the table.
     #[error("the number in row {row}, column {column} has an exponent of more than 30 digits")]
     WideExponent { row: usize, column: usize },
 }

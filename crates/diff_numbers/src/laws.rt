@@ -1,8 +1,10 @@
-//! Laws of the texts that cells are compared by.
+//! Laws of the texts by which cells are compared.
 
 ghost use Rattle.diff_numbers.specs.Laws.{CellsTell, NumbersTell};
 
-/// Says which cells are compared as the same.
+/// States two laws about columns whose numbers are compared by value. Two cells have the same
+/// comparable text if and only if they are the same bytes, or numbers of the same value. For two
+/// numbers only the value counts.
 pub fn comparable_laws()
     ensures cells_tell { CellsTell }
     ensures numbers_tell { NumbersTell }

@@ -1,4 +1,5 @@
-//! The texts that the cells of a table are compared by, where numbers are compared by their values.
+//! Converts the cells of tables so that numbers can be compared by value: all numbers of the same
+//! value get the same text.
 #![tactic(auto)]
 
 pub mod cells;

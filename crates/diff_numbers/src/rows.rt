@@ -1,4 +1,4 @@
-//! Rows of the texts that cells are compared by.
+//! Converts rows to the texts by which their cells are compared.
 
 ghost use Rattle.std.specs.Prelude.{◌≡◌, ◌<◌, ◌++◌, ◌∷◌, [], ℕ, List, length, get_or, MatchResult};
 ghost use Rattle.diff_numbers.specs.Errors.{IsCellFault};
@@ -11,7 +11,8 @@ use diff_tables::strings::Strings;
 use diff_tables::table::Table;
 use json_decimals::error::NumberError;
 
-/// Appends the text that the cell at a row and a column is compared by.
+/// Appends the comparable text of the cell in this row and column. `numeric` has for each column
+/// whether its numbers are compared by value.
 fn push_cell(
     cells: &mut Strings,
     room: &mut Vec<u8>,
@@ -36,7 +37,8 @@ fn push_cell(
     }
 }
 
-/// Appends the texts that the cells of a row are compared by.
+/// Appends the comparable texts of the cells of a row. `numeric` has for each column whether its
+/// numbers are compared by value.
 pub(crate) fn push_row(
     cells: &mut Strings,
     room: &mut Vec<u8>,

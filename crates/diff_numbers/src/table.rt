@@ -1,4 +1,4 @@
-//! Tables of the texts that cells are compared by.
+//! Converts tables to the texts by which their cells are compared.
 
 ghost use Rattle.std.specs.List.{flat_map};
 ghost use Rattle.std.specs.Prelude.{◌≡◌, length, MatchResult};
@@ -12,7 +12,7 @@ use diff_tables::strings::Strings;
 use diff_tables::table::Table;
 use std::alloc::Global;
 
-/// Returns the texts that all cells of a table are compared by, one row after another.
+/// Returns the comparable texts of all cells of a table, row by row.
 fn comparable_cells(
     alloc: Global,
     table: &Table,
@@ -31,11 +31,11 @@ fn comparable_cells(
     Ok(cells)
 }
 
-/// Returns the table that a table is compared by. It has for each cell the text that the cell is
-/// compared by. `numeric` says for each column whether numbers count.
+/// Returns a table with the comparable text of each cell of `table`. `numeric` has for each column
+/// whether its numbers are compared by value.
 ///
-/// Fails where a number that counts has an exponent of more than 30 digits, and otherwise only
-/// where an allocation fails.
+/// Fails with `WideExponent` if a number in such a column has an exponent of more than 30 digits,
+/// and with `Memory` if an allocation fails.
 pub fn comparable_table(
     alloc: Global,
     table: &Table,

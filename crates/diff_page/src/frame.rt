@@ -1,6 +1,6 @@
-//! The frame of a page.
+//! The fixed parts of the HTML page.
 
-/// The text before the styles.
+/// The beginning of the page, up to the styles.
 pub(crate) const HEAD: &str = r##"<!DOCTYPE html>
 <html lang="en">
 <head>
@@ -12,7 +12,7 @@ pub(crate) const HEAD: &str = r##"<!DOCTYPE html>
 <style>
 "##;
 
-/// The text between the styles and the report.
+/// The part between the styles and the report.
 pub(crate) const BODY: &str = r##"</style>
 </head>
 <body>
@@ -52,12 +52,12 @@ lines.</p></noscript>
 <script type="application/x-ndjson" id="report">
 "##;
 
-/// The text between the report and the script.
+/// The part between the report and the script.
 pub(crate) const MIDDLE: &str = r##"</script>
 <script>
 "##;
 
-/// The text after the script.
+/// The end of the page, after the script.
 pub(crate) const END: &str = r##"</script>
 </body>
 </html>

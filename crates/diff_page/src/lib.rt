@@ -1,4 +1,4 @@
-//! Pages that show a report in a browser: one file, which needs no other and no network.
+//! Writes a report as an HTML page. The page is a single file, and loads no other files.
 #![tactic(auto)]
 
 mod frame;

@@ -1,4 +1,4 @@
-//! The page of a report.
+//! Writes the HTML page of a report.
 
 ghost use Rattle.std.specs.Prelude.{◌≡◌, ◌++◌, OnOk};
 ghost use Rattle.diff_page.specs.Page.{closing, files_object, opening, page_of, untagged};
@@ -10,7 +10,7 @@ use crate::style::STYLE;
 use diff_json::strings::push_string;
 use std::alloc::AllocError;
 
-/// Appends a byte, or the escape of JSON that means it where it would begin a tag.
+/// Appends a byte. A `<` is written as its JSON escape `\u003c`, so that no HTML tag begins.
 fn push_byte(out: &mut Vec<u8>, byte: u8) -> Result<(), AllocError>
     ensures { OnOk result (out.new.items ≡ out.old.items ++ untagged_byte byte) }
 {
@@ -22,7 +22,7 @@ fn push_byte(out: &mut Vec<u8>, byte: u8) -> Result<(), AllocError>
     Ok(())
 }
 
-/// Appends a text in which no tag begins.
+/// Appends a JSON text, with each `<` written as its JSON escape, so that no HTML tag begins.
 fn push_untagged(out: &mut Vec<u8>, text: &[u8]) -> Result<(), AllocError>
     ensures { OnOk result (out.new.items ≡ out.old.items ++ untagged text.now) }
 {
@@ -32,7 +32,7 @@ fn push_untagged(out: &mut Vec<u8>, text: &[u8]) -> Result<(), AllocError>
     Ok(())
 }
 
-/// Appends the line of JSON that names two inputs.
+/// Appends a JSON line with the names of the two files.
 fn push_files(out: &mut Vec<u8>, left: &[u8], right: &[u8]) -> Result<(), AllocError>
     ensures { OnOk result (out.new.items ≡ out.old.items ++ files_object left.now right.now) }
 {
@@ -44,7 +44,7 @@ fn push_files(out: &mut Vec<u8>, left: &[u8], right: &[u8]) -> Result<(), AllocE
     Ok(())
 }
 
-/// Appends the part of a page before the report.
+/// Appends the part of the page before the report.
 fn push_opening(out: &mut Vec<u8>) -> Result<(), AllocError>
     ensures { OnOk result (out.new.items ≡ out.old.items ++ opening) }
 {
@@ -54,7 +54,7 @@ fn push_opening(out: &mut Vec<u8>) -> Result<(), AllocError>
     Ok(())
 }
 
-/// Appends the part of a page after the report.
+/// Appends the part of the page after the report.
 fn push_closing(out: &mut Vec<u8>) -> Result<(), AllocError>
     ensures { OnOk result (out.new.items ≡ out.old.items ++ closing) }
 {
@@ -64,9 +64,11 @@ fn push_closing(out: &mut Vec<u8>) -> Result<(), AllocError>
     Ok(())
 }
 
-/// Appends the page of a report. `report` is the report as JSON lines, and the two names are those
-/// of the inputs. The page has the report as JSON lines too, with the names before it. No tag
-/// begins in them.
+/// Appends the HTML page of a report. `report` is the report as JSON lines. `left` and `right` are
+/// the names of the files.
+///
+/// The page contains a JSON line with the names and then the report, both without any `<`. Its
+/// script shows them in the browser.
 pub fn push_page(
     out: &mut Vec<u8>,
     left: &[u8],

@@ -1,7 +1,7 @@
-//! The script of a page.
+//! The script of the HTML page.
 
-/// The script, which reads the report and shows it. It makes elements and texts, and never
-/// takes a text of the report for a part of the page.
+/// The script of the page. It reads the report and shows it. Texts of the report are added as text
+/// nodes, never as HTML.
 pub(crate) const SCRIPT: &str = r##""use strict";
 const PIECE = 500, LONG = 40, MOST_TOKENS = 400;
 const WORDS = {changed: "~ changed", removed: "- removed", added: "+ added"};

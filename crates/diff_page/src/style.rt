@@ -1,6 +1,7 @@
-//! The styles of a page.
+//! The style sheet of the HTML page.
 
-/// The styles: light or dark as the reader has it, on screens of any width and on paper.
+/// The style sheet of the page. It has light and dark colours, and rules for narrow screens and for
+/// print.
 pub(crate) const STYLE: &str = r##":root {
   color-scheme: light dark;
   --back: #fff; --text: #1c2024; --quiet: #5b6470; --line: #d8dde3; --panel: #f5f7f9;

@@ -1,4 +1,4 @@
-//! Arrays of cells that are lent.
+//! Borrowed arrays of cells, and their conversion to Arrow arrays.
 
 ghost use Rattle.std.specs.Prelude.{◌≡◌, ◌++◌, None, false, true, IfOk, MatchResult};
 ghost use Rattle.polars_arrays_bits.specs.Errors.{IsMemory};
@@ -12,17 +12,16 @@ use polars_arrays_bytes::binary::BinaryArray;
 use polars_arrays_nested::any_array::AnyArray;
 use std::alloc::{AllocError, Global};
 
-/// Byte strings that are lent.
+/// Borrowed byte strings, the cells of a table.
 #[derive(Clone, Copy)]
 pub enum LentCells<'a> {
-    /// An array with ends of 32 bits, and its bytes, which it shares.
+    /// An array with 32-bit offsets, and the buffer of its bytes, which the array shares.
     Near(&'a BinaryArray<i32>, &'a Buffer<u8>),
-    /// An array with ends of 64 bits.
+    /// An array with 64-bit offsets.
     Far(&'a BinaryArray<i64>),
 }
 
-/// Widens the offsets `near` to 64 bits, and appends `far`: the offsets of strings that began with
-/// 32 bits and went on with 64.
+/// Returns the offsets `near`, widened to 64 bits, followed by `far`.
 pub fn all_offsets(alloc: Global, near: &[i32], far: &[i64]) -> Result<Vec<i64>, AllocError>
     ensures { IfOk result (λ ends. ends.items ≡ near.now ++ far.now) }
 {
@@ -34,7 +33,7 @@ pub fn all_offsets(alloc: Global, near: &[i32], far: &[i64]) -> Result<Vec<i64>,
     Ok(ends)
 }
 
-/// Returns the array of strings between ends of 32 bits. The one error is `Memory`.
+/// Returns the strings as an array with 32-bit offsets. The only error is `Memory`.
 fn near_array(alloc: Global, array: &BinaryArray<i32>) -> Result<AnyArray, ComputeError>
     requires { array.now.validity ≡ None }
     ensures { MatchResult result (HoldsCells false (offset_strings (λ x. x) array.now)) IsMemory }
@@ -43,7 +42,7 @@ fn near_array(alloc: Global, array: &BinaryArray<i32>) -> Result<AnyArray, Compu
     Ok(AnyArray::Binary(copy))
 }
 
-/// Returns the array of strings between ends of 64 bits. The one error is `Memory`.
+/// Returns the strings as an array with 64-bit offsets. The only error is `Memory`.
 fn far_array(alloc: Global, array: &BinaryArray<i64>) -> Result<AnyArray, ComputeError>
     requires { array.now.validity ≡ None }
     ensures { MatchResult result (HoldsCells true (offset_strings (λ x. x) array.now)) IsMemory }
@@ -52,8 +51,8 @@ fn far_array(alloc: Global, array: &BinaryArray<i64>) -> Result<AnyArray, Comput
     Ok(AnyArray::LargeBinary(copy))
 }
 
-/// Returns the strings of an array, between ends of 64 bits. `bytes` are those of the array. The
-/// one error is `Memory`.
+/// Returns the strings of an array with 32-bit offsets as an array with 64-bit offsets. `bytes` is
+/// the buffer of the array's bytes, which the result shares. The only error is `Memory`.
 fn widened(
     alloc: Global,
     array: &BinaryArray<i32>,
@@ -71,7 +70,7 @@ fn widened(
     }
 }
 
-/// Returns whether the ends have 64 bits.
+/// Returns whether the offsets have 64 bits.
 pub(crate) fn are_far(cells: LentCells<'_>) -> bool
     ensures { result ≡ are_far cells.entry }
 {
@@ -81,8 +80,8 @@ pub(crate) fn are_far(cells: LentCells<'_>) -> bool
     }
 }
 
-/// Returns an array of the strings, with ends of 64 bits if `wide`. No string is copied. The one
-/// error is `Memory`.
+/// Returns an array of the strings, with 64-bit offsets if `wide` is true and else with 32-bit
+/// offsets. The result shares the bytes. The only error is `Memory`.
 pub(crate) fn cell_array(
     alloc: Global,
     cells: LentCells<'_>,

@@ -1,4 +1,4 @@
-//! The pairs of rows that differ.
+//! Finds the pairs of rows that differ, in any two arrays of the same type.
 
 ghost use Rattle.std.specs.Prelude.{◌≡◌, length, MatchResult};
 ghost use Rattle.polars_arrays_bits.specs.Errors.{IsMemory};
@@ -16,7 +16,8 @@ use polars_arrays_nested::any_array::AnyArray;
 use polars_compare_nested::kernels::array_tot_eq_missing_kernel;
 use std::alloc::Global;
 
-/// Returns a bit for each pair of rows, which is set where the two are the same tree.
+/// Returns a bit for each pair of rows, which is set if the two rows are equal. Pair `p` is row
+/// `left_rows[p]` of `left` and row `right_rows[p]` of `right`. The only error is `Memory`.
 fn same_pairs(
     alloc: Global,
     left: AnyArray,
@@ -37,8 +38,8 @@ fn same_pairs(
     array_tot_eq_missing_kernel(alloc, &left, &right)
 }
 
-/// Lists the pairs whose two rows are different trees, in rising order. Pair `p` is row
-/// `left_rows[p]` of the left array and row `right_rows[p]` of the right one. The one error is
+/// Returns the indices of the pairs whose two rows differ, in ascending order. Pair `p` is row
+/// `left_rows[p]` of the left array and row `right_rows[p]` of the right array. The only error is
 /// `Memory`.
 pub fn changed_pairs(
     alloc: Global,

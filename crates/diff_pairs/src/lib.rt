@@ -1,6 +1,6 @@
-//! Finds the pairs of rows of any two arrays that differ. No row is copied. The row numbers of the
-//! pairs are the keys of two dictionaries over the arrays, and the kernel of missing equality
-//! compares the dictionaries.
+//! Finds the pairs of rows of two arrays that differ, without copying rows. The row numbers of the
+//! pairs become the keys of two dictionary arrays over the arrays. These dictionary arrays are
+//! compared by the equality kernel.
 #![tactic(auto)]
 
 pub mod cells;

@@ -1,4 +1,4 @@
-//! The rows of an array that some numbers name.
+//! Selects rows of an array by their numbers.
 
 ghost use Rattle.std.specs.Prelude.{MatchResult};
 ghost use Rattle.polars_arrays_bits.specs.Errors.{IsMemory};
@@ -13,7 +13,8 @@ use polars_arrays_nested::dict_keys::DictKeys;
 use polars_arrays_nested::dictionary::DictionaryArray;
 use std::alloc::Global;
 
-/// Returns the rows of an array that the numbers name, as a dictionary over the array.
+/// Returns the rows of `array` with the numbers `rows`, as a dictionary array. Nothing is copied.
+/// The only error is `Memory`.
 pub(crate) fn picked(
     alloc: Global,
     array: AnyArray,

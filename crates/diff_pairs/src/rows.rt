@@ -1,4 +1,4 @@
-//! The rows of cells that differ.
+//! Finds the pairs of rows that differ, in two tables of cells.
 
 ghost use Rattle.std.specs.Prelude.{◌≡◌, ◌*◌, ℕ, Bool, List, true, length, MatchResult};
 ghost use Rattle.polars_arrays_bits.specs.Errors.{IsMemory};
@@ -16,18 +16,18 @@ use polars_arrays_nested::any_array::AnyArray;
 use polars_arrays_nested::fixed_size_list::FixedSizeListArray;
 use std::alloc::Global;
 
-/// Rows of cells that are lent.
+/// Borrowed rows of a table.
 #[derive(Clone, Copy)]
 pub struct LentRows<'a> {
-    /// The number of cells of each row.
+    /// The number of cells in each row.
     pub width: usize,
     /// The number of rows.
     pub count: usize,
-    /// The cells of all rows, the first row's first.
+    /// The cells of all rows, row by row.
     pub cells: LentCells<'a>,
 }
 
-/// Returns the array of `count` lists of `width` cells each. The one error is `Memory`.
+/// Returns an array of `count` lists, each with `width` of the cells. The only error is `Memory`.
 fn lists_of(
     alloc: Global,
     width: usize,
@@ -48,8 +48,8 @@ fn lists_of(
     }
 }
 
-/// Returns the array whose rows are lists of the cells of each row, with ends of 64 bits if `wide`.
-/// No cell is copied. The one error is `Memory`.
+/// Returns an array with a list of cells for each row. The cells have 64-bit offsets if `wide` is
+/// true, and else 32-bit offsets. No cell is copied. The only error is `Memory`.
 fn list_array(
     alloc: Global,
     rows: LentRows<'_>,
@@ -67,8 +67,8 @@ fn list_array(
     }
 }
 
-/// Lists the pairs of rows that differ, where the left rows are the lists of an array, whose cells
-/// lie between ends of 64 bits if `wide`.
+/// Returns the indices of the pairs that differ, in ascending order. The left rows are given as an
+/// array of lists, whose cells have 64-bit offsets if `wide` is true. The only error is `Memory`.
 fn changed_lists(
     alloc: Global,
     left: FixedSizeListArray,
@@ -104,9 +104,9 @@ fn changed_lists(
     }
 }
 
-/// Lists the pairs whose two rows have different cells, in rising order. Pair `p` is row
-/// `left_rows[p]` of the left rows and row `right_rows[p]` of the right ones. No cell is copied.
-/// The one error is `Memory`.
+/// Returns the indices of the pairs whose two rows have different cells, in ascending order. Pair
+/// `p` is row `left_rows[p]` of `left` and row `right_rows[p]` of `right`. No cell is copied. The
+/// only error is `Memory`.
 pub fn changed_rows(
     alloc: Global,
     left: LentRows<'_>,
@@ -126,7 +126,7 @@ pub fn changed_rows(
         (strings_of right.entry.cells) left_rows.items right_rows.items) (length left_rows.items)
         changed.items) IsMemory }
 {
-    // Both arrays have to be of one type.
+    // Both arrays must have the same type, so both get the same offsets.
     let wide = are_far(left.cells) || are_far(right.cells);
     match list_array(alloc, left, wide) {
         Ok(left) => changed_lists(alloc, left, left_rows, right, right_rows, wide),

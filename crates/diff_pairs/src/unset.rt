@@ -1,4 +1,4 @@
-//! The places of bits.
+//! Finds the bits that are not set.
 
 ghost use Rattle.std.specs.Prelude.{length, MatchResult};
 ghost use Rattle.polars_arrays_bits.specs.Errors.{IsMemory};
@@ -9,7 +9,8 @@ use polars_arrays_bits::bitmap::Bitmap;
 use polars_arrays_bits::error::ComputeError;
 use std::alloc::Global;
 
-/// Lists the places whose bit is not set.
+/// Returns the indices of the bits that are not set, in ascending order. The only error is
+/// `Memory`.
 pub(crate) fn unset_places(alloc: Global, bits: &Bitmap) -> Result<Vec<usize>, ComputeError>
     ensures { MatchResult result
         (λ places. ListsRising (IsUnset bits.now) (length bits.now) places.items) IsMemory }
