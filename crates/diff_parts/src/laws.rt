@@ -1,17 +1,18 @@
-//! Laws: the comparisons of the parts of two tables make the comparison of the tables. These
-//! functions do nothing; their contracts are the laws.
+//! Laws about dividing tables into parts by the keys of their rows: the comparison of two tables
+//! consists of the comparisons of their parts. The functions do nothing; their contracts are the
+//! laws.
 
 ghost use Rattle.diff_parts.specs.Laws.{EachKeyHasAPart, KeepsAdded, KeepsPartners, KeepsPlaces};
 ghost use Rattle.diff_parts.specs.Laws.{KeepsRemoved, KeepsRows};
 
-/// Law: each key is in exactly one of the parts.
+/// Law: for every number of parts, each key is in exactly one part.
 pub fn law_one_part()
     ensures { EachKeyHasAPart }
 {}
 
-/// Law: let a test of keys choose the rows that are kept of two tables. All rows whose keys pass
-/// are then kept, in their order. Two kept rows are partners (rows of one key, matched with each
-/// other) exactly where they were before, and a kept row has no partner exactly where it had none.
+/// Law: two tables are filtered by the same condition on keys. Exactly the rows whose keys meet the
+/// condition remain, in their order. Two remaining rows are partners exactly if they were partners
+/// before, and a remaining row has no partner exactly if it had none before.
 pub fn law_kept_rows()
     ensures places { KeepsPlaces }
     ensures rows { KeepsRows }

@@ -1,5 +1,5 @@
-//! Parts of tables. The key of a row decides which part it is in, and so the comparison of two
-//! tables is made of the comparisons of their parts.
+//! Divides tables into parts by the keys of their rows. Rows with the same key are in the same
+//! part, so the comparison of two tables consists of the comparisons of their parts.
 #![tactic(auto)]
 
 pub mod laws;

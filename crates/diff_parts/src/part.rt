@@ -1,4 +1,4 @@
-//! Parts of tables.
+//! A part of a table.
 
 ghost use Rattle.std.specs.Option.{SomeIff};
 ghost use Rattle.std.specs.Prelude.{◌≡◌};
@@ -7,7 +7,7 @@ ghost use Rattle.diff_parts.specs.Parts.{IsPart, has_hash, in_part};
 use diff_keys::hash::key_hash;
 use std::marker::Model;
 
-/// One of `count` parts of a table. The first part has `index` 1.
+/// One of the `count` parts of a table. Parts are numbered from 1 to `count` by `index`.
 #[derive(Clone, Copy, Debug)]
 pub struct Part {
     index: u64,
@@ -27,7 +27,8 @@ impl Model for Part {
 }
 
 impl Part {
-    /// Returns part `index` of `count`, or `None` if there is no such part.
+    /// Returns part `index` of `count` parts. Returns `None` if `index` is 0 or greater than
+    /// `count`.
     pub fn new(index: u64, count: u64) -> Option<Part>
         ensures { SomeIff result (IsPart (record { index = index; count = count }))
             (record { index = index; count = count }) }
@@ -38,7 +39,7 @@ impl Part {
         Some(Part { index, count })
     }
 
-    /// Returns whether the part has rows with a key of this hash.
+    /// Returns whether rows whose key has this hash are in the part.
     #[inline(always)]
     pub(crate) fn has_hash(self, hash: u64) -> bool
         ensures { result ≡ has_hash self hash }
@@ -46,7 +47,7 @@ impl Part {
         hash % self.count == self.index % self.count
     }
 
-    /// Returns whether the part has the rows with this key.
+    /// Returns whether rows with this key are in the part.
     pub fn has_key(self, key: &[u8]) -> bool
         ensures { result ≡ in_part self key.now }
     {

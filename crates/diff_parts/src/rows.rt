@@ -1,4 +1,4 @@
-//! The rows that a part has.
+//! Finds out whether a row is in a part.
 
 ghost use Rattle.std.specs.List.{fold};
 ghost use Rattle.std.specs.Prelude.{◌≡◌, [], get_or};
@@ -9,13 +9,13 @@ ghost use Rattle.diff_tables.specs.Keys.{escaped, marked, row_key};
 use crate::part::Part;
 use diff_tables::string_list::StringList;
 
-/// The hash of the empty key.
+/// The start value of the hash, which is the hash of an empty key.
 const EMPTY: u64 = 0xcbf2_9ce4_8422_2325;
 
-/// The factor by which a hash is multiplied after each byte.
+/// The prime by which the hash is multiplied after each byte.
 const PRIME: u64 = 0x100_0000_01b3;
 
-/// Returns a hash after one byte more of a key.
+/// Returns the hash after adding one byte.
 #[inline(always)]
 fn after_byte(hash: u64, byte: u8) -> u64
     ensures { result ≡ hash_step hash byte }
@@ -23,7 +23,7 @@ fn after_byte(hash: u64, byte: u8) -> u64
     (hash ^ u64::from(byte)).wrapping_mul(PRIME)
 }
 
-/// Returns a hash after one byte more of a cell of the key.
+/// Returns the hash after adding one byte of a cell. A zero byte is added as 0 1.
 #[inline(always)]
 fn after_marked(hash: u64, byte: u8) -> u64
     ensures { result ≡ fold hash_step hash (marked byte) }
@@ -35,7 +35,7 @@ fn after_marked(hash: u64, byte: u8) -> u64
     after
 }
 
-/// Returns a hash after one cell more of a key.
+/// Returns the hash after adding a cell and its end mark 0 0.
 #[inline(always)]
 fn after_cell(hash: u64, cell: &[u8]) -> u64
     ensures { result ≡ fold hash_step hash (escaped cell.now) }
@@ -47,7 +47,7 @@ fn after_cell(hash: u64, cell: &[u8]) -> u64
     after_byte(after_byte(after, 0), 0)
 }
 
-/// Returns the cell in a column, or an empty one if the row has no such column.
+/// Returns the cell in a column, or an empty cell if the row has no such column.
 #[inline(always)]
 fn cell_at<S: StringList>(cells: &S, column: usize) -> &[u8]
     ensures { result.now ≡ get_or (S.strings cells.now) column [] }
@@ -58,7 +58,8 @@ fn cell_at<S: StringList>(cells: &S, column: usize) -> &[u8]
     &[]
 }
 
-/// Returns the hash of the key of a row: of its cells in the key columns, each with its end.
+/// Returns the hash of the key of a row. The result equals `key_hash` of the encoded key, but the
+/// key is not stored. `keys` are the indices of the key columns in `cells`.
 fn row_hash<S: StringList>(cells: &S, keys: &[usize]) -> u64
     ensures { result ≡ key_hash (row_key keys.now (S.strings cells.now)) }
 {
@@ -70,7 +71,8 @@ fn row_hash<S: StringList>(cells: &S, keys: &[usize]) -> u64
 }
 
 impl Part {
-    /// Returns whether the part has a row of these cells, by those in the key columns.
+    /// Returns whether a row with these cells is in the part. Only the cells in the key columns
+    /// decide. `keys` are the indices of these columns in `cells`.
     pub fn has_row<S: StringList>(self, cells: &S, keys: &[usize]) -> bool
         ensures { result ≡ in_part self (row_key keys.now (S.strings cells.now)) }
     {

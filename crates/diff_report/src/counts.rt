@@ -1,4 +1,4 @@
-//! The number of pairs that differ in each column.
+//! Counts by column the changed pairs that differ in it.
 
 ghost use Rattle.std.specs.Prelude.{◌≡◌, ◌<◌, ◌-◌, ◌^◌, All, length, IfOk};
 ghost use Rattle.diff_tables.specs.Comparison.{IsComparison};
@@ -12,7 +12,7 @@ use crate::sides::Sides;
 use diff_tables::compare::Comparison;
 use std::alloc::{AllocError, Global};
 
-/// Adds 1 to the count of each column in which two rows differ.
+/// Adds 1 to the count of each column in which left row `i` and right row `j` differ.
 fn count_pair(counts: &mut Vec<usize>, sides: &Sides, i: usize, j: usize)
     requires sides { AreSides sides.now }
     requires left { i < length sides.now.left.table.rows }
@@ -48,7 +48,7 @@ fn counts_of(
     Ok(counts)
 }
 
-/// Counts for each column the changed pairs that differ in it.
+/// Returns for each column the number of changed pairs that differ in it.
 pub fn count_by_column(
     alloc: Global,
     sides: &Sides,

@@ -1,4 +1,4 @@
-//! The text of a comparison: a line for each difference, and a summary.
+//! Writes the text report of a comparison: a line for each difference, and a summary.
 #![tactic(auto)]
 
 pub mod counts;

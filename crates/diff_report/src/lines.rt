@@ -1,4 +1,4 @@
-//! The lines of differences.
+//! Writes the lines of changed, removed and added rows.
 
 ghost use Rattle.std.specs.Prelude.{◌≡◌, ◌<◌, ◌++◌, length, OnOk};
 ghost use Rattle.diff_report.specs.Lines.{line_of, mark_color, side_line, side_text};
@@ -12,14 +12,15 @@ use diff_words::decimals::push_decimal;
 use diff_words::words::push_word;
 use std::alloc::AllocError;
 
-/// A reason why a row has no partner: only the left side has it, or only the right one.
+/// The kind of a row without a partner: `Removed` for a left row, `Added` for a right row.
 #[derive(Clone, Copy)]
 pub enum Alone {
     Removed,
     Added,
 }
 
-/// Appends the line of left row `i` and right row `j`, which differ.
+/// Appends the line of a changed pair, left row `i` and right row `j`: `~`, the key, and for each
+/// column that differs `COLUMN LEFT -> RIGHT`.
 #[tactic(auto, unfolding(diff_words::specs::Colors::painted))]
 pub fn push_pair_line(
     out: &mut Vec<u8>,
@@ -42,7 +43,7 @@ pub fn push_pair_line(
     Ok(())
 }
 
-/// Returns the colour of a line with this mark: red after a minus, and else green.
+/// Returns the colour of a line with this mark: red for `-`, and green for any other mark.
 pub fn mark_color(mark: u8) -> Color
     ensures { result ≡ mark_color mark }
 {
@@ -53,7 +54,8 @@ pub fn mark_color(mark: u8) -> Color
     }
 }
 
-/// Appends a row that only one side has, without the line feed.
+/// Appends the line of row `i` of `side`, without colours and without the line feed: the mark, the
+/// key, the name of the file and the line number.
 #[tactic(auto, unfolding(crate::specs::Lines::side_text))]
 fn push_side_text(
     out: &mut Vec<u8>,
@@ -78,8 +80,8 @@ fn push_side_text(
     Ok(())
 }
 
-/// Appends the line of a row that only one side has: `-` is the mark of the left side, `+` that of
-/// the right one.
+/// Appends the line of row `i` of `side`, which has no partner. `mark` is `-` if `side` is the left
+/// side, and `+` if it is the right side.
 #[tactic(auto, unfolding(crate::specs::Lines::side_line, diff_words::specs::Colors::painted))]
 pub fn push_side_line(
     out: &mut Vec<u8>,

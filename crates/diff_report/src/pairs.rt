@@ -1,4 +1,4 @@
-//! The columns in which two rows differ.
+//! Writes the columns in which two rows differ.
 
 ghost use Rattle.std.specs.Prelude.{◌≡◌, ◌<◌, ◌+◌, ◌++◌, [], if◌then◌else◌, length, map, codes};
 ghost use Rattle.std.specs.Prelude.{IfOk, OnOk};
@@ -14,8 +14,8 @@ use diff_words::words::push_word;
 use polars_arrays_flat::byte_rows::ByteRows;
 use std::alloc::AllocError;
 
-/// Returns whether left row `i` and right row `j` differ in a column, by the texts that their cells
-/// are compared by.
+/// Returns whether left row `i` and right row `j` differ in a column. The comparable cells decide
+/// (`Sides::compared_left`, `Sides::compared_right`).
 pub(crate) fn differ_at(sides: &Sides, i: usize, j: usize, column: usize) -> bool
     requires sides { AreSides sides.now }
     requires left { i < length sides.now.left.table.rows }
@@ -26,7 +26,7 @@ pub(crate) fn differ_at(sides: &Sides, i: usize, j: usize, column: usize) -> boo
     sides.compared_left().cell(i, column) != sides.compared_right().cell(j, column)
 }
 
-/// Appends the name of a column, and the two cells in it.
+/// Appends `COLUMN LEFT -> RIGHT` for a column of left row `i` and right row `j`.
 fn push_change(
     out: &mut Vec<u8>,
     sides: &Sides,
@@ -53,8 +53,9 @@ fn push_change(
     Ok(())
 }
 
-/// Appends a column where the two rows differ in it, as the element of a list that has `written`
-/// elements already. Returns how many it has then.
+/// Appends `COLUMN LEFT -> RIGHT` for a column if left row `i` and right row `j` differ in it.
+/// `written` is the number of columns that were appended before. Returns their number after the
+/// call.
 fn push_if_changed(
     out: &mut Vec<u8>,
     sides: &Sides,
@@ -83,7 +84,8 @@ fn push_if_changed(
     Ok(written + 1)
 }
 
-/// Appends the columns in which two rows differ.
+/// Appends `COLUMN LEFT -> RIGHT` for each column in which left row `i` and right row `j` differ,
+/// with commas between the columns.
 pub(crate) fn push_changes(
     out: &mut Vec<u8>,
     sides: &Sides,

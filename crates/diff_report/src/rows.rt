@@ -1,4 +1,4 @@
-//! The names of rows.
+//! Writes the keys of rows.
 
 ghost use Rattle.std.specs.Prelude.{◌≡◌, ◌<◌, ◌++◌, length, map, codes, OnOk};
 ghost use Rattle.diff_words.specs.Lists.{listed};
@@ -12,7 +12,7 @@ use diff_words::words::push_word;
 use polars_arrays_flat::byte_rows::ByteRows;
 use std::alloc::AllocError;
 
-/// Appends the name of a key column and the row's cell in it.
+/// Appends `COLUMN=CELL` for a key column of row `i`.
 fn push_key(
     out: &mut Vec<u8>,
     sides: &Sides,
@@ -33,7 +33,7 @@ fn push_key(
     Ok(())
 }
 
-/// Appends the names of the key columns and the row's cells in them.
+/// Appends `COLUMN=CELL` for each key column of row `i`, with commas between the columns.
 fn push_keys(out: &mut Vec<u8>, sides: &Sides, side: &Side, i: usize) -> Result<(), AllocError>
     requires sides { AreSides sides.now }
     requires side { IsSide (naming_of sides.now) side.now }
@@ -50,8 +50,8 @@ fn push_keys(out: &mut Vec<u8>, sides: &Sides, side: &Side, i: usize) -> Result<
     Ok(())
 }
 
-/// Appends the name of a row: its cells in the key columns, or its number if there are no key
-/// columns.
+/// Appends the key of row `i`: `COLUMN=CELL` for each key column. If there are no key columns,
+/// appends `row N`, where the first row is 1.
 #[tactic(auto, unfolding(crate::specs::Rows::row_text))]
 pub(crate) fn push_row(
     out: &mut Vec<u8>,

@@ -1,4 +1,4 @@
-//! Two tables, with what a report of them names.
+//! Two tables, with the names that a report needs.
 
 ghost use Rattle.std.specs.Prelude.{◌≡◌, ◌<◌, length};
 ghost use Rattle.diff_report.specs.Naming.{Naming};
@@ -8,22 +8,22 @@ ghost use Rattle.diff_report.specs.Sides.{naming_of, number_of};
 use diff_tables::table::Table;
 use polars_arrays_bytes::binary::BinaryArray;
 
-/// A table, with the file that it is from.
+/// A table that was read from a file.
 #[derive(Drop)]
 pub struct Side {
     /// The name of the file.
     pub name: Vec<u8>,
-    /// The rows.
+    /// The rows of the table.
     pub table: Table,
-    /// The line of the file at which each row begins.
+    /// The line at which each row begins in the file.
     pub lines: Vec<u64>,
-    /// The number of each row among all rows of the file, from 1 on, if the table does not have all
-    /// of them.
+    /// The number of each row among all rows of the file, from 1 on. `None` if the table has all
+    /// rows of the file.
     pub numbers: Option<Vec<u64>>,
 }
 
 impl Side {
-    /// Returns the number of row `i` among the rows of the file, from 1 on.
+    /// Returns the number of row `i` among all rows of the file. The first row is 1.
     pub fn number(&self, i: usize) -> u64
         requires row { i < length self.now.table.rows }
         requires side { (n : Naming) × IsSide n self.now }
@@ -36,32 +36,35 @@ impl Side {
     }
 }
 
-/// Two tables that are compared in place of two others. Each cell stands for the one at its place.
+/// Two tables to compare in place of two others, row by row and cell by cell.
 #[derive(Drop)]
 pub struct Comparables {
     pub left: Table,
     pub right: Table,
 }
 
-/// Two tables of the same columns.
+/// Two tables with the same columns, and the names and options for their report.
 #[derive(Drop)]
 pub struct Sides {
     pub left: Side,
     pub right: Side,
-    /// The tables that the cells are compared by, if they are not compared as they are.
+    /// Tables to compare in place of the left and right table, such as tables with numbers in their
+    /// normal form. `None`: the left and right table are compared themselves.
     pub comparables: Option<Comparables>,
-    /// The names of the columns.
+    /// The names of the columns of both tables.
     pub names: BinaryArray<i64>,
-    /// The columns that name a row. If there are none, a row is named by its number.
+    /// The key columns, as indices into `names`. If there are none, a report names a row by its
+    /// number.
     pub keys: Vec<usize>,
-    /// The cell that stands for no value, where there is one.
+    /// The text of a cell that stands for no value. `None`: no cell does.
     pub null: Option<Vec<u8>>,
     /// `true` if the report has colours for a terminal.
     pub colored: bool,
 }
 
 impl Sides {
-    /// Returns the table that the left rows are compared by.
+    /// Returns the table that is compared in place of the left table: that of `comparables`, or the
+    /// left table itself if `comparables` is `None`.
     pub fn compared_left(&self) -> &Table
         requires { AreSides self.now }
         ensures rows { result.now.rows ≡ compared_left self.now }
@@ -74,7 +77,8 @@ impl Sides {
         }
     }
 
-    /// Returns the table that the right rows are compared by.
+    /// Returns the table that is compared in place of the right table: that of `comparables`, or
+    /// the right table itself if `comparables` is `None`.
     pub fn compared_right(&self) -> &Table
         requires { AreSides self.now }
         ensures rows { result.now.rows ≡ compared_right self.now }

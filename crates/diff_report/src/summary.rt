@@ -1,4 +1,4 @@
-//! The summary after the lines.
+//! Writes the summary at the end of a text report.
 
 ghost use Rattle.std.specs.Fmt.{decimal};
 ghost use Rattle.std.specs.Prelude.{◌≡◌, ◌==◌, ◌<◌, ◌≤◌, ◌+◌, ◌++◌, [], if◌then◌else◌, length};
@@ -19,16 +19,16 @@ use polars_arrays_bytes::binary::BinaryArray;
 use polars_arrays_flat::byte_rows::ByteRows;
 use std::alloc::AllocError;
 
-/// The counts of a comparison: pairs of partners, and rows without a partner.
+/// The number of row pairs and rows of each kind in a comparison.
 #[derive(Clone, Copy)]
 pub struct Totals {
-    /// The pairs of partners that differ.
+    /// The number of matched pairs whose rows differ.
     pub changed: usize,
-    /// The left rows that have no partner.
+    /// The number of left rows without a partner.
     pub removed: usize,
-    /// The right rows that have no partner.
+    /// The number of right rows without a partner.
     pub added: usize,
-    /// The pairs of partners that are the same.
+    /// The number of matched pairs whose rows are equal.
     pub same: usize,
 }
 
@@ -48,7 +48,8 @@ impl Totals {
         }
     }
 
-    /// Returns how many differences there are. In 128 bits, where the sum can't overflow.
+    /// Returns the number of differences: changed, removed and added. The sum has 128 bits, so that
+    /// it can't overflow.
     pub fn differences(&self) -> u128
         ensures { (c : Comparison) → AreTotalsOf c self.now
             → result ≡ difference_count c.matching (length c.changed.items) }
@@ -57,15 +58,17 @@ impl Totals {
     }
 }
 
-/// Returns how many differences there are, if `changed` of the matched rows differ. In 128 bits,
-/// where the sum can't overflow.
+/// Returns the number of differences if `changed` of the matched pairs differ: these, and the rows
+/// without a partner. The sum has 128 bits, so that it can't overflow.
 pub fn difference_count(matching: &Matching, changed: usize) -> u128
     ensures { result ≡ difference_count matching.now changed }
 {
     changed as u128 + matching.removed.len() as u128 + matching.added.len() as u128
 }
 
-/// Appends how many of `count` differences have no line, if some have a line and others do not.
+/// Appends `.. and N more` if `count` is greater than `limit`, where N is the excess. Appends
+/// nothing if `limit` is 0. `count` is the number of differences, and `limit` the most that have a
+/// line.
 #[tactic(auto, unfolding(crate::specs::Summary::rest_text))]
 pub fn push_rest(out: &mut Vec<u8>, count: u128, limit: usize) -> Result<(), AllocError>
     ensures { OnOk result (out.new.items ≡ out.old.items ++ rest_text limit count) }
@@ -79,7 +82,7 @@ pub fn push_rest(out: &mut Vec<u8>, count: u128, limit: usize) -> Result<(), All
     Ok(())
 }
 
-/// Appends a number, and the name of what it counts.
+/// Appends a number and the text `what` after it.
 fn push_count(out: &mut Vec<u8>, count: usize, what: &[u8]) -> Result<(), AllocError>
     ensures { OnOk result (out.new.items ≡ out.old.items ++ decimal count ++ what.now) }
 {
@@ -88,7 +91,7 @@ fn push_count(out: &mut Vec<u8>, count: usize, what: &[u8]) -> Result<(), AllocE
     Ok(())
 }
 
-/// Appends how many rows are changed, removed, added, and the same.
+/// Appends the numbers of changed, removed, added and equal rows.
 fn push_totals(out: &mut Vec<u8>, totals: &Totals) -> Result<(), AllocError>
     ensures { OnOk result
         ((c : Comparison) → AreTotalsOf c totals.now
@@ -101,8 +104,8 @@ fn push_totals(out: &mut Vec<u8>, totals: &Totals) -> Result<(), AllocError>
     Ok(())
 }
 
-/// Appends `NAME COUNT` of a column, after a comma unless it is the first of the list, or nothing
-/// if its count is 0. `written` says how many were appended before. Returns how many are now.
+/// Appends `COLUMN COUNT` for a column if its count is not 0. `written` is the number of columns
+/// that were appended before. Returns their number after the call.
 fn push_if_counted(
     out: &mut Vec<u8>,
     names: &BinaryArray<i64>,
@@ -130,7 +133,7 @@ fn push_if_counted(
     Ok(written + 1)
 }
 
-/// Appends the columns that differ, each with its count.
+/// Appends `By column:` and then `COLUMN COUNT` for each column whose count is not 0.
 fn push_by_column(
     out: &mut Vec<u8>,
     names: &BinaryArray<i64>,
@@ -150,7 +153,8 @@ fn push_by_column(
     Ok(())
 }
 
-/// Appends the columns that differ, where some rows do.
+/// Appends the counts by column (`push_by_column`), or nothing if `changed` is 0. `changed` is the
+/// number of changed rows.
 fn push_columns(
     out: &mut Vec<u8>,
     names: &BinaryArray<i64>,
@@ -168,8 +172,8 @@ fn push_columns(
     Ok(())
 }
 
-/// Appends the last line: how many rows differ, and in which columns. `counts` says how often each
-/// column of these names differs.
+/// Appends the last line of a report: the totals, and the counts by column if any row is changed.
+/// `counts` has for each column the number of changed pairs that differ in it.
 pub fn push_summary(
     out: &mut Vec<u8>,
     names: &BinaryArray<i64>,

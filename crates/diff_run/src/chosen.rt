@@ -1,4 +1,4 @@
-//! What the options choose of the columns of two inputs.
+//! Checks the column names in the options against the columns of two inputs.
 
 ghost use Rattle.std.specs.Prelude.{◌≡◌, ◌↔◌, All, IsTrue, MatchOption, MatchResult};
 ghost use Rattle.polars_arrays_bytes.specs.OffsetStrings.{offset_strings};
@@ -16,7 +16,8 @@ use diff_tolerances::cells::Tolerance;
 use polars_arrays_bytes::binary::BinaryArray;
 use polars_arrays_flat::byte_rows::ByteRows;
 
-/// Returns the place of the first of the names that no column of either input has, or `None`.
+/// Returns the index of the first of `names` that is a column of neither input. Returns `None` if
+/// each is a column, or if `names` is `None`. `left` and `right` are the names of the columns.
 fn unknown_among(
     left: &BinaryArray<i64>,
     right: &BinaryArray<i64>,
@@ -34,7 +35,7 @@ fn unknown_among(
     }
 }
 
-/// Returns whether a column of one of the inputs has this name.
+/// Returns whether at least one input has a column with this name.
 fn is_known(left: &BinaryArray<i64>, right: &BinaryArray<i64>, name: &[u8]) -> bool
     ensures { IsTrue result
         ↔ IsKnown (offset_strings (λ x. x) left.now) (offset_strings (λ x. x) right.now) name.now }
@@ -45,7 +46,8 @@ fn is_known(left: &BinaryArray<i64>, right: &BinaryArray<i64>, name: &[u8]) -> b
     }
 }
 
-/// Returns the place of the first of some tolerances whose column neither input has, or `None`.
+/// Returns the index of the first of `tolerances` whose column neither input has, or `None` if each
+/// column exists.
 fn first_unknown(
     left: &BinaryArray<i64>,
     right: &BinaryArray<i64>,
@@ -65,7 +67,8 @@ fn first_unknown(
     None
 }
 
-/// Returns the place of the first of the tolerances whose column neither input has, or `None`.
+/// Returns the index of the first of `tolerances` whose column neither input has. Returns `None` if
+/// each column exists, or if `tolerances` is `None`.
 fn unknown_tolerance(
     left: &BinaryArray<i64>,
     right: &BinaryArray<i64>,
@@ -83,8 +86,8 @@ fn unknown_tolerance(
     }
 }
 
-/// Returns the error for the first name of the options that is not that of a column of either
-/// input, or `None`.
+/// Returns an error for the first name in the options that is not a column of either input, or
+/// `None` if each is a column.
 fn unknown_name(
     left: &BinaryArray<i64>,
     right: &BinaryArray<i64>,
@@ -115,8 +118,8 @@ fn unknown_name(
     None
 }
 
-/// Returns whether columns that one input has alone are left out, and only those of the key are in
-/// both.
+/// Returns whether the option `common` leaves out columns of one input, and only key columns remain
+/// to compare.
 fn key_alone(layout: &Layout, options: &Options<'_>) -> bool
     ensures { result ≡ key_alone options.now layout.now }
 {
@@ -124,9 +127,8 @@ fn key_alone(layout: &Layout, options: &Options<'_>) -> bool
     options.common && are_alone && layout.left.len() == layout.keys.len()
 }
 
-/// Returns whether nothing is left to compare or to report: an input has columns, but no column is
-/// compared, or with `common` only those of the key, and none is reported as being in one input
-/// alone.
+/// Returns whether nothing remains to compare or report, although an input has columns. This is so
+/// if no column is compared and no column of one input is reported, or if `key_alone` holds.
 fn nothing_left(
     left: &BinaryArray<i64>,
     right: &BinaryArray<i64>,
@@ -144,8 +146,8 @@ fn nothing_left(
     !are_bare && (none_compared || key_alone(layout, options))
 }
 
-/// Tests that each column that the options name is in one of the inputs, and that something is left
-/// to compare. The only error is `Choice`.
+/// Checks that each column named in the options exists in an input, and that something remains to
+/// compare. The only error is `Choice`.
 pub(crate) fn test_heads(heads: &Heads, options: &Options<'_>) -> Result<(), RunError>
     ensures { MatchResult result (λ _. AreChosen options.now heads.now)
         (IsHeadsFault options.now heads.now) }

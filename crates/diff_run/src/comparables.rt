@@ -1,4 +1,4 @@
-//! The tables that the rows of two inputs are compared by.
+//! Makes the tables that are compared in place of the inputs.
 
 ghost use Rattle.std.specs.Prelude.{◌≡◌, ◌<◌, All, length, IfOk, MatchResult};
 ghost use Rattle.diff_numbers.specs.Rows.{IsComparableTable};
@@ -25,8 +25,8 @@ use polars_arrays_bytes::binary::BinaryArray;
 use polars_arrays_flat::byte_rows::ByteRows;
 use std::alloc::{AllocError, Global};
 
-/// Returns the error of a number whose exponent is too wide, in this column. `line` is where its
-/// row begins.
+/// Returns the error about a number in this column whose exponent has more than 30 digits. `line`
+/// is the line at which its row begins.
 fn wide_exponent(
     alloc: Global,
     names: &BinaryArray<i64>,
@@ -43,7 +43,9 @@ fn wide_exponent(
     }
 }
 
-/// Returns the table that the rows of an input are compared by.
+/// Returns the table to compare in place of an input, with each number in its normal form.
+/// `numeric` has for each column whether its numbers are compared by value. Fails if a number has
+/// an exponent of more than 30 digits.
 fn table_by(
     alloc: Global,
     names: &BinaryArray<i64>,
@@ -65,7 +67,8 @@ fn table_by(
     }
 }
 
-/// Returns for each column whether it is compared by the values of numbers, and not as text.
+/// Returns for each column whether its numbers are compared by value. Without `--numbers` no column
+/// is.
 fn counted(
     alloc: Global,
     names: &BinaryArray<i64>,
@@ -89,8 +92,8 @@ fn counted(
     }
 }
 
-/// Returns the tables in which the numbers that count are replaced by their normal texts. They are
-/// compared in place of the inputs', before tolerances.
+/// Returns the inputs as tables in which each number of a numeric column has its normal form (see
+/// `counted`). Tolerances are not applied.
 fn tables_by(
     alloc: Global,
     names: &BinaryArray<i64>,
@@ -110,8 +113,8 @@ fn tables_by(
     Ok(Comparables { left, right })
 }
 
-/// Returns `tables`, with each cell of the right one that a tolerance allows to differ from its
-/// partner's replaced by the partner's.
+/// Returns `tables` with changes in the right table: each cell that a tolerance allows to differ
+/// from its partner's cell is replaced by that cell. Such cells are then equal.
 fn with_tolerances(
     alloc: Global,
     names: &BinaryArray<i64>,
@@ -134,8 +137,9 @@ fn with_tolerances(
     }
 }
 
-/// Returns the tables that the rows of both inputs are compared by without tolerances, if they are
-/// not compared as they are.
+/// Returns the tables to compare in place of the inputs if there are no tolerances. With
+/// `--numbers` these have each number in its normal form. Without it the result is `None`: the
+/// inputs are compared unchanged.
 #[tactic(auto, using(crate::proofs::ComparableLemmas::exactly))]
 fn compared_exactly(
     alloc: Global,
@@ -158,8 +162,8 @@ fn compared_exactly(
     }
 }
 
-/// Returns the two tables that are compared in place of the inputs', with numbers by value or with
-/// tolerances, or `None` if the inputs are compared as they are.
+/// Returns the tables to compare in place of the inputs, because of `--numbers` or tolerances.
+/// Without both the result is `None`: the inputs are compared unchanged.
 #[tactic(auto, using(crate::proofs::ComparableLemmas::compared))]
 pub(crate) fn compared_by(
     alloc: Global,

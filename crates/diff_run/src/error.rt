@@ -1,4 +1,4 @@
-//! Why two inputs are not compared.
+//! The errors of comparing two CSV inputs.
 
 ghost use Rattle.std.specs.Prelude.{Some};
 ghost use Rattle.diff_run.specs.Chosen.{list_text};
@@ -11,16 +11,16 @@ use std::alloc::AllocError;
 use std::{fmt, io};
 use thiserror::Error;
 
-/// A list of names that the options give.
+/// A list of column names in the options.
 #[derive(Clone, Copy, Debug)]
 pub enum NameList {
-    /// The columns to compare.
+    /// The columns to compare (`Choice::only`).
     Only,
-    /// The columns not to compare.
+    /// The columns that are not compared (`Choice::ignored`).
     Ignored,
-    /// The columns to compare as texts.
+    /// The columns that are compared as texts (`Options::numbers`).
     Texts,
-    /// The columns that have a tolerance.
+    /// The columns that have a tolerance (`Options::tolerances`).
     Tolerances,
 }
 
@@ -37,18 +37,19 @@ impl fmt::Display for NameList {
     }
 }
 
-/// The reason why no columns are chosen.
+/// An error in the choice of columns.
 #[derive(Clone, Copy, Debug, Error)]
 pub enum ChoiceError {
-    /// No column of either table has a name of the options, whose place in its list is `name`.
+    /// The options name a column that neither table has. `name` is the index of this name in
+    /// `list`.
     #[error("neither table has a column for name {name} of the {list}")]
     NoColumn { list: NameList, name: usize },
-    /// No column is compared, and none that one table has alone is reported.
+    /// No column is compared, and no column of one table is reported.
     #[error("no column is left to compare")]
     NothingLeft,
 }
 
-/// The reason why two inputs are not compared. Nothing was written, unless it is `Write`.
+/// An error of comparing two CSV inputs. Except for `Write`, nothing was written.
 #[derive(Debug, Drop, Error)]
 pub enum RunError {
     /// An allocation failed.
@@ -57,40 +58,39 @@ pub enum RunError {
     /// A table has more than 2^32 rows.
     #[error("a table has more than 4,294,967,296 rows")]
     TooManyRows,
-    /// An input can't be read as CSV.
+    /// The input on this side can't be read as CSV.
     #[error("{cause}")]
     Csv {
         side: Side,
         cause: CsvError,
     },
-    /// Two rows of a table have one key, where keys have to be unique. `first` and `again` are the
-    /// lines at which they begin.
+    /// Two rows of a table have the same key, but keys must be unique. `first` and `again` are the
+    /// lines at which the rows begin.
     #[error("the rows at lines {first} and {again} have the same key")]
     KeyTwice {
         side: Side,
         first: u64,
         again: u64,
     },
-    /// A number has an exponent of more than 30 digits, its leading zeros not counted, and is to be
-    /// compared by what it is worth. `line` is where its row begins, and `name` is that of its
-    /// column.
+    /// A number that is compared by value has an exponent of more than 30 digits, leading zeros not
+    /// counted. `line` is the line at which its row begins, and `name` is the name of its column.
     #[error("the number at line {line} has an exponent of more than 30 digits")]
     WideExponent {
         side: Side,
         line: u64,
         name: Vec<u8>,
     },
-    /// The columns can't be matched.
+    /// The columns of the two inputs can't be matched by name.
     #[error("{cause}")]
     Columns {
         cause: ColumnError,
     },
-    /// The options choose columns that neither input has, or none of those that they have.
+    /// The options name a column that neither input has, or leave no column to compare.
     #[error("{cause}")]
     Choice {
         cause: ChoiceError,
     },
-    /// A write failed. A beginning of the report may have been written.
+    /// A write failed. The beginning of the report may have been written.
     #[error("{cause}")]
     Write {
         cause: io::Error,

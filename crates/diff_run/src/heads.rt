@@ -1,4 +1,4 @@
-//! The columns of two inputs.
+//! Reads and matches the columns of two inputs.
 
 ghost use Rattle.std.specs.Prelude.{◌≡◌, ℕ, List, IfOk, MatchResult};
 ghost use Rattle.polars_arrays_bytes.specs.OffsetStrings.{offset_strings};
@@ -17,14 +17,14 @@ use polars_arrays_bytes::binary::BinaryArray;
 use std::alloc::Global;
 use std::io::Read;
 
-/// The names of the columns of two inputs, and how they are matched.
+/// The names of the columns of two inputs, and how the columns are matched.
 pub struct Heads {
     pub left_names: BinaryArray<i64>,
     pub right_names: BinaryArray<i64>,
     pub layout: Layout,
 }
 
-// By hand, so that each place where heads go out of scope is one call.
+// Written by hand, so that dropping heads is a single call in the compiled code.
 impl Drop for Heads {
     fn drop(self) {
         let Heads {
@@ -38,7 +38,7 @@ impl Drop for Heads {
     }
 }
 
-/// Returns the error of a run whose columns can't be matched.
+/// Converts an error of matching columns to an error of the comparison.
 fn fault_of(error: ColumnError) -> RunError
     ensures { result ≡ fault_of error }
 {
@@ -48,7 +48,7 @@ fn fault_of(error: ColumnError) -> RunError
     }
 }
 
-/// Matches the columns of two inputs by their names.
+/// Reads the names of the columns of two inputs, and matches the columns by name.
 fn matched<L: Read + Drop, R: Read + Drop>(
     alloc: Global,
     left: &Source<L>,
@@ -87,9 +87,10 @@ fn matched<L: Read + Drop, R: Read + Drop>(
     }
 }
 
-/// Returns the names of the columns of two inputs, and how those that the options choose are
-/// matched by name. The error is `Columns` if they can't be matched, `Choice` if the options name
-/// an unknown column or leave nothing to compare, and else `Memory`.
+/// Reads the names of the columns of two inputs, and matches the columns by name.
+///
+/// Fails with `Columns` if the columns can't be matched, with `Choice` if the options name an
+/// unknown column or leave nothing to compare, and with `Memory` if an allocation fails.
 pub fn heads_of<L: Read + Drop, R: Read + Drop>(
     alloc: Global,
     left: &Source<L>,

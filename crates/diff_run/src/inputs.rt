@@ -1,4 +1,4 @@
-//! Inputs, and the rows that they have.
+//! Reads the rows of two inputs.
 
 ghost use Rattle.std.specs.Prelude.{◌≡◌, ℕ, List, Some, IfOk, MatchResult};
 ghost use Rattle.diff_csv.specs.Reading.{IsOpen};
@@ -15,14 +15,14 @@ use diff_csv::wanted::Wanted;
 use std::alloc::Global;
 use std::io::Read;
 
-/// The rows of two inputs.
+/// The rows of two inputs, in the columns that are compared.
 #[derive(Drop)]
 pub(crate) struct Both {
     pub(crate) left: CsvTable,
     pub(crate) right: CsvTable,
 }
 
-/// Reads the first record of an input.
+/// Opens an input and reads its first record. The error is `Csv` with this side.
 pub fn opened<R: Read + Drop>(
     alloc: Global,
     reader: R,
@@ -42,7 +42,8 @@ pub fn opened<R: Read + Drop>(
     }
 }
 
-/// Reads the rows of an input, or those of a part, each with its cells in these columns.
+/// Reads the rows of an input, each with its cells in `columns`. If the options have a part, reads
+/// only the rows of this part.
 fn read_rows<R: Read + Drop>(
     alloc: Global,
     source: Source<R>,
@@ -71,8 +72,8 @@ fn read_rows<R: Read + Drop>(
     }
 }
 
-/// Reads the rows of two inputs, or those of a part, each with its cells in the columns that are
-/// compared.
+/// Reads the rows of two inputs, each with its cells in the columns that are compared. If the
+/// options have a part, reads only the rows of this part.
 pub(crate) fn read_both<L: Read + Drop, R: Read + Drop>(
     alloc: Global,
     left: Source<L>,

@@ -1,4 +1,4 @@
-//! Compares two CSV inputs by key, and writes what differs.
+//! Compares two CSV inputs by key, and writes a report of their differences.
 #![tactic(auto)]
 
 mod chosen;

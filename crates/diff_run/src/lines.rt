@@ -1,4 +1,4 @@
-//! The lines of differences, in the form that is asked for.
+//! Writes the lines of differences, as text or JSON.
 
 ghost use Rattle.std.specs.List.{concat, flat_map};
 ghost use Rattle.std.specs.Prelude.{◌≡◌, ◌<◌, ◌++◌, All, length, take, OnOk};
@@ -21,7 +21,7 @@ use diff_words::formats::Format;
 use polars_arrays_bytes::binary::BinaryArray;
 use std::alloc::AllocError;
 
-/// Appends the line of the pair at place `k` of the matched rows.
+/// Appends the line of matched pair `k`, whose rows differ.
 fn push_pair_at(
     out: &mut Vec<u8>,
     format: Format,
@@ -44,7 +44,7 @@ fn push_pair_at(
     }
 }
 
-/// Appends the line of a row that has no partner.
+/// Appends the line of row `i` of `side`, which has no partner.
 fn push_row(
     out: &mut Vec<u8>,
     format: Format,
@@ -67,7 +67,7 @@ fn push_row(
     }
 }
 
-/// Appends the lines of the first `limit` pairs that differ.
+/// Appends the lines of the first `limit` changed pairs.
 fn push_pairs(
     out: &mut Vec<u8>,
     format: Format,
@@ -89,7 +89,7 @@ fn push_pairs(
     Ok(())
 }
 
-/// Appends the lines of the first `limit` of these rows, which have no partner.
+/// Appends the lines of the first `limit` of `rows`, which are rows of `side` without a partner.
 fn push_rows(
     out: &mut Vec<u8>,
     format: Format,
@@ -112,8 +112,8 @@ fn push_rows(
     Ok(())
 }
 
-/// Appends the lines of the first `limit` differences: the changed rows in left order, then the
-/// removed ones, then the added ones.
+/// Appends the lines of the first `limit` differences: the changed rows in the order of the left
+/// rows, then the removed rows, then the added rows.
 pub(crate) fn push_lines(
     out: &mut Vec<u8>,
     format: Format,
@@ -137,9 +137,9 @@ pub(crate) fn push_lines(
     Ok(())
 }
 
-/// Appends the end of a report. In text it is the number of differences without a line, and the
-/// summary. In JSON it is the line with the counts. `counts` says how often each column of these
-/// names differs.
+/// Appends the end of a report. In text these are the number of differences without a line, and the
+/// summary. In JSON it is the line with the counts. `counts` has for each column the number of
+/// changed pairs that differ in it.
 pub fn push_end(
     out: &mut Vec<u8>,
     format: Format,

@@ -1,4 +1,4 @@
-//! Columns that only one of two inputs has.
+//! Writes lines about columns that only one input has.
 
 ghost use Rattle.std.specs.Prelude.{◌≡◌, ◌<◌, ◌++◌, All, length, OnOk};
 ghost use Rattle.polars_arrays_bytes.specs.OffsetStrings.{offset_strings};
@@ -12,7 +12,8 @@ use polars_arrays_bytes::binary::BinaryArray;
 use polars_arrays_flat::byte_rows::ByteRows;
 use std::alloc::AllocError;
 
-/// Appends the line of a column that only one input has to a report in text.
+/// Appends the line about a column that only one input has, as text. `input` is the name of this
+/// input.
 #[tactic(auto, unfolding(crate::specs::Lone::lone_line))]
 fn push_lone_line(out: &mut Vec<u8>, input: &[u8], name: &[u8]) -> Result<(), AllocError>
     ensures { OnOk result (out.new.items ≡ out.old.items ++ lone_line input.now name.now) }
@@ -25,7 +26,8 @@ fn push_lone_line(out: &mut Vec<u8>, input: &[u8], name: &[u8]) -> Result<(), Al
     Ok(())
 }
 
-/// Appends the line of a column that only one input has.
+/// Appends the line about a column that only one input has, as text or JSON. `input` is the name of
+/// this input, which is on this side.
 fn push_alone_line(
     out: &mut Vec<u8>,
     format: Format,
@@ -42,7 +44,8 @@ fn push_alone_line(
     }
 }
 
-/// Appends a line for each of the columns that only one input has.
+/// Appends a line for each of `columns`, which only one input has. `names` has the names of all
+/// columns of this input.
 pub(crate) fn push_alone(
     out: &mut Vec<u8>,
     format: Format,

@@ -1,4 +1,4 @@
-//! The names of the columns that are compared.
+//! Selects the names of the columns that are compared.
 
 ghost use Rattle.std.specs.Prelude.{◌≡◌, ◌<◌, [], All, get_or, length, map, IfOk};
 ghost use Rattle.polars_arrays_bytes.specs.OffsetStrings.{offset_strings};
@@ -10,7 +10,7 @@ use polars_arrays_bytes::binary::BinaryArray;
 use polars_arrays_flat::byte_rows::ByteRows;
 use std::alloc::Global;
 
-/// Returns the names of some columns.
+/// Returns the names of `columns`, which are indices into `names`.
 pub(crate) fn names_at(
     alloc: Global,
     names: &BinaryArray<i64>,

@@ -1,4 +1,4 @@
-//! Options of a comparison and of its report.
+//! The options of a comparison and of its report.
 
 use diff_columns::choice::Choice;
 use diff_csv::options::CsvOptions;
@@ -9,30 +9,31 @@ pub use diff_words::formats::Format;
 /// The options of a comparison and of its report.
 #[derive(Clone, Copy)]
 pub struct Options<'a> {
-    /// The columns to compare.
+    /// The choice of the columns to compare.
     pub choice: Choice<'a>,
-    /// The options by which the inputs are read.
+    /// The options for reading the inputs.
     pub csv: CsvOptions,
-    /// The columns that are compared as texts. In all other columns numbers are compared by their
-    /// values. With `None` all cells are compared as texts.
+    /// If `Some`, numbers are compared by value in all columns except these. `None`: all cells are
+    /// compared as texts.
     pub numbers: Option<&'a [&'a [u8]]>,
-    /// The tolerances for numbers. Two cells of partners do not differ where one of the tolerances
-    /// allows them to. With `None` there are no tolerances.
+    /// The tolerances for numbers. Two cells of matched rows count as equal if one of the
+    /// tolerances allows their difference. `None`: there are no tolerances.
     pub tolerances: Option<&'a [Tolerance<'a>]>,
-    /// The part of the rows that is read and compared. The cells in the key columns, as they are
-    /// written, decide which part a row is in. With `None` all rows are read. The parts make the
-    /// whole if keys are compared as texts.
+    /// The part of the rows that is read and compared. The key cells, as written in the file,
+    /// decide which part a row is in. `None`: all rows. If keys are compared as texts, the
+    /// comparisons of all parts make up that of the whole files.
     pub part: Option<Part>,
-    /// The cell that stands for no value, where there is one.
+    /// The text of a cell that stands for no value. `None`: no cell does.
     pub null: Option<&'a [u8]>,
-    /// The most differences that have a line of their own. With 0 the report is the counts.
+    /// The most changed, removed and added rows that get a line of their own. With 0 none of them
+    /// does.
     pub limit: usize,
-    /// `true` if columns that only one input has are left out of the report.
+    /// `true` if columns that only one input has are neither reported nor counted as a difference.
     pub common: bool,
-    /// `true` if a key that comes twice in an input is an error.
+    /// `true` if two rows of an input with the same key are an error.
     pub unique: bool,
-    /// The form of the report.
+    /// The form of the report, text or JSON.
     pub format: Format,
-    /// `true` if a report in text has colours for a terminal.
+    /// `true` if a text report has colours for a terminal.
     pub colored: bool,
 }

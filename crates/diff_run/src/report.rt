@@ -1,4 +1,4 @@
-//! The report of two inputs.
+//! Makes the report of two inputs.
 
 ghost use Rattle.std.specs.Prelude.{◌≡◌, ◌++◌, ℕ, List, IfOk, MatchResult};
 ghost use Rattle.polars_arrays_bytes.specs.OffsetStrings.{offset_strings};
@@ -29,14 +29,15 @@ use diff_report::summary::Totals;
 use diff_tables::compare::{Comparison, compare_tables};
 use std::alloc::{AllocError, Global};
 
-/// The report of two inputs, and its outcome.
+/// The report of two inputs, and the outcome of their comparison.
 #[derive(Drop)]
 pub struct Report {
     pub text: Vec<u8>,
     pub outcome: Outcome,
 }
 
-/// Returns the lines of the columns that only one input has.
+/// Returns the lines about columns that only one input has. They are left out with the option
+/// `common`.
 pub fn columns_text(
     alloc: Global,
     heads: &Heads,
@@ -75,7 +76,7 @@ pub fn columns_text(
     Ok(text)
 }
 
-/// Compares the rows of two sides.
+/// Matches and compares the rows of two tables.
 fn compared(alloc: Global, sides: &Sides) -> Result<Comparison, RunError>
     requires { AreSides sides.now }
     ensures { MatchResult result
@@ -90,7 +91,8 @@ fn compared(alloc: Global, sides: &Sides) -> Result<Comparison, RunError>
     }
 }
 
-/// Appends the report of two sides in the format of the options.
+/// Appends the report of the rows in the format of the options: the lines of differences, and the
+/// end.
 fn push_all(
     alloc: Global,
     out: &mut Vec<u8>,
@@ -115,7 +117,8 @@ fn push_all(
     Ok(())
 }
 
-/// Returns the outcome: whether the tables are the same.
+/// Returns the outcome of a comparison: `Same` if there are no differences in rows and, unless
+/// `common` is set, none in columns.
 fn outcome_of(options: &Options<'_>, layout: &Layout, comparison: &Comparison) -> Outcome
     ensures { result ≡ outcome_of options.now layout.now comparison.now }
 {
@@ -124,7 +127,7 @@ fn outcome_of(options: &Options<'_>, layout: &Layout, comparison: &Comparison) -
     outcome::outcome_of(&comparison.matching, &comparison.changed, is_shared)
 }
 
-/// Compares two sides, and returns the report and its outcome.
+/// Compares two tables, and returns the report and the outcome.
 pub(crate) fn report_of(
     alloc: Global,
     sides: &Sides,

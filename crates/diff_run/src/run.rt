@@ -1,4 +1,4 @@
-//! The whole comparison, from two readers to a writer.
+//! Compares two CSV inputs, from two readers to a writer.
 
 ghost use Rattle.std.specs.Prelude.{◌≡◌, ◌⊎◌, ℕ, List, Some, IfErr, IfOk, MatchResult};
 ghost use Rattle.std.specs.Io.KnownBytes.{Appends};
@@ -16,14 +16,14 @@ use diff_keys::outcome::Outcome;
 use std::alloc::Global;
 use std::io::{Read, Write};
 
-/// An input, and the name that the report has for it.
+/// An input, with its name for the report.
 #[derive(Drop)]
 pub struct Input<'a, R> {
     pub name: &'a [u8],
     pub reader: R,
 }
 
-/// Returns the report of two inputs.
+/// Reads and compares two inputs, and returns the report.
 fn report_on<L: Read + Drop, R: Read + Drop>(
     alloc: Global,
     left: Input<'_, L>,
@@ -50,8 +50,8 @@ fn report_on<L: Read + Drop, R: Read + Drop>(
     report_of(alloc, &sides, &heads, files, options)
 }
 
-/// Compares two inputs, and writes the report. Nothing is written where an input can't be read, the
-/// columns can't be matched, a table has too many rows, or an allocation fails.
+/// Compares two CSV inputs, and writes the report to `out`. If the error is not `Write`, nothing
+/// was written: the inputs are read completely and the report is made in memory first.
 pub fn run<L: Read + Drop, R: Read + Drop, W: Write>(
     alloc: Global,
     left: Input<'_, L>,

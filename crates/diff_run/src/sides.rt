@@ -1,4 +1,4 @@
-//! The two sides of a report, made from two inputs.
+//! Makes the two sides of a report from two inputs.
 
 ghost use Rattle.std.specs.Option.{option_map};
 ghost use Rattle.std.specs.Prelude.{◌≡◌, ℕ, List, IfOk, MatchResult};
@@ -22,15 +22,16 @@ use polars_arrays_bytes::binary::BinaryArray;
 use std::alloc::{AllocError, Global};
 use std::io::Read;
 
-/// The names that the report has for two inputs.
+/// The names of two inputs for the report.
 #[derive(Clone, Copy)]
 pub struct Files<'a> {
     pub left: &'a [u8],
     pub right: &'a [u8],
 }
 
-/// The things that a report has beside the rows: the names of the inputs and of the columns, the
-/// places of the keys among these, and the cell that stands for no value, where there is one.
+/// The data of a report besides the rows: the names of the inputs, the names of the compared
+/// columns, the key columns as indices into these names, and the text of a cell that stands for no
+/// value.
 #[derive(Drop)]
 pub struct Frame {
     pub left: Vec<u8>,
@@ -40,7 +41,7 @@ pub struct Frame {
     pub null: Option<Vec<u8>>,
 }
 
-/// Copies a text, where there is one.
+/// Returns a copy of a text, or `None` for `None`.
 fn copied(alloc: Global, text: Option<&[u8]>) -> Result<Option<Vec<u8>>, AllocError>
     ensures { IfOk result
         (λ copy. option_map (λ v. v.items) copy ≡ option_map (λ v. v.now) text.entry) }
@@ -51,7 +52,7 @@ fn copied(alloc: Global, text: Option<&[u8]>) -> Result<Option<Vec<u8>>, AllocEr
     }
 }
 
-/// Returns the things that a report has beside the rows. The one error is `Memory`.
+/// Returns the data of a report besides the rows. The only error is `Memory`.
 pub fn frame_of(
     alloc: Global,
     heads: &Heads,
@@ -77,7 +78,8 @@ pub fn frame_of(
     })
 }
 
-/// Reads the rows of two inputs whose columns are matched.
+/// Reads the rows of two inputs whose columns are matched, and makes the tables to compare in their
+/// place if needed.
 pub(crate) fn sides_of<L: Read + Drop, R: Read + Drop>(
     alloc: Global,
     left: Source<L>,

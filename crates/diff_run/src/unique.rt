@@ -1,4 +1,4 @@
-//! Keys that have to be unique.
+//! Checks that keys are unique.
 
 ghost use Rattle.std.specs.Prelude.{◌≡◌, ◌<◌, true, All, length, MatchResult};
 ghost use Rattle.diff_keys.specs.Unique.{AllDiffer};
@@ -16,7 +16,8 @@ use diff_tables::compare::key_twice;
 use diff_tables::table::Table;
 use std::alloc::Global;
 
-/// Tests that no two rows of a table have one key. `lines` are those at which its rows begin.
+/// Checks that no two rows of a table have the same key, and fails with `KeyTwice` if two have.
+/// `lines` has the line at which each row begins.
 fn test_side(
     alloc: Global,
     table: &Table,
@@ -41,8 +42,8 @@ fn test_side(
     }
 }
 
-/// Tests that no two rows of a side have one key, if keys have to be unique. The keys are those of
-/// the rows as they are compared.
+/// Checks on both sides that no two rows have the same key, if the option `unique` is set. Keys are
+/// taken from the tables that are compared, so numbers may count by value.
 pub(crate) fn test_keys(alloc: Global, sides: &Sides, options: &Options<'_>) -> Result<(), RunError>
     requires { AreSides sides.now }
     ensures { MatchResult result

@@ -1,4 +1,4 @@
-//! The columns in which two rows differ, counted.
+//! Compares two rows, and counts the columns in which they differ.
 
 ghost use Rattle.std.specs.Prelude.{◌≡◌, ◌<◌, ◌-◌, ◌^◌, true, false, All, length};
 ghost use Rattle.diff_report.specs.Counts.{AddsWhere};
@@ -15,7 +15,7 @@ fn differ_at<L: StringList, R: StringList>(left: &L, right: &R, column: usize) -
     left.string(column) != right.string(column)
 }
 
-/// Returns whether two rows differ in some column.
+/// Returns whether two rows differ in at least one column.
 fn differ<L: StringList, R: StringList>(left: &L, right: &R) -> bool
     requires { length (L.strings left.now) ≡ length (R.strings right.now) }
     ensures same { result ≡ false → L.strings left.now ≡ R.strings right.now }
@@ -42,8 +42,8 @@ fn count_columns<L: StringList, R: StringList>(left: &L, right: &R, counts: &mut
     }
 }
 
-/// Adds 1 to the count of each column in which two rows differ. Returns whether they differ in
-/// some.
+/// Adds 1 to the count of each column in which two rows differ. Returns whether they differ in at
+/// least one column.
 #[tactic(auto, using(crate::proofs::CountLemmas::none_more))]
 pub fn count_changes<L: StringList, R: StringList>(
     left: &L,

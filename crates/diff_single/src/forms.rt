@@ -1,4 +1,4 @@
-//! Lines in the form that is asked for.
+//! Writes the lines of differences, as text or JSON.
 
 ghost use Rattle.std.specs.Prelude.{◌≡◌, ◌<◌, ◌++◌, length, OnOk};
 ghost use Rattle.diff_report.specs.Sides.{AreSides, IsSide, naming_of};
@@ -11,7 +11,7 @@ use diff_report::sides::{Side, Sides};
 use diff_words::formats::Format;
 use std::alloc::AllocError;
 
-/// Appends the line of left row `i` and right row `j`, which differ.
+/// Appends the line of a changed pair, left row `i` and right row `j`.
 pub(crate) fn push_pair_of(
     out: &mut Vec<u8>,
     format: Format,
@@ -30,7 +30,7 @@ pub(crate) fn push_pair_of(
     }
 }
 
-/// Appends the line of row `i` of a side, which has no partner.
+/// Appends the line of row `i` of `side`, which has no partner.
 pub(crate) fn push_row(
     out: &mut Vec<u8>,
     format: Format,

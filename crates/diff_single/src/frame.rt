@@ -1,20 +1,20 @@
-//! The frame that the differences of two tables share.
+//! The data that all lines of a report share.
 
 use diff_words::formats::Format;
 use polars_arrays_bytes::binary::BinaryArray;
 
-/// The properties that the lines of all differences of two tables share.
+/// The data that all lines of a report share: names and options.
 #[derive(Clone, Copy)]
 pub struct Frame<'a> {
     /// The names of the columns that are compared.
     pub names: &'a BinaryArray<i64>,
-    /// The columns that name a row.
+    /// The key columns, as indices into `names`.
     pub keys: &'a [usize],
-    /// The cell that stands for no value, where there is one.
+    /// The text of a cell that stands for no value. `None`: no cell does.
     pub null: Option<&'a [u8]>,
     /// `true` if the lines have colours for a terminal.
     pub colored: bool,
-    /// The form of the lines.
+    /// The form of the lines, text or JSON.
     pub format: Format,
     /// The name of the left file.
     pub left: &'a [u8],

@@ -1,5 +1,5 @@
-//! The lines of single differences. Each is made of its rows alone, so that no table has to be in
-//! memory as a whole.
+//! Writes the line of a single difference. Only the rows of this difference are needed, so no whole
+//! table has to be in memory.
 #![tactic(auto)]
 
 pub mod changes;

@@ -1,4 +1,4 @@
-//! The line of one difference.
+//! Writes the line of a single difference.
 
 ghost use Rattle.std.specs.Prelude.{◌≡◌, ◌<◌, ◌++◌, ℕ, All, length, slice_index, OnOk};
 ghost use Rattle.diff_keys.specs.declared.matching.Matching.{Matching};
@@ -17,8 +17,8 @@ use diff_report::lines::Alone;
 use diff_tables::string_list::StringList;
 use std::alloc::{AllocError, Global};
 
-/// Appends the line of two rows of one key that differ. The line is the same in the report of any
-/// two tables that have these rows.
+/// Appends the line of two matched rows that differ. It equals the line that `diff_run` writes for
+/// these rows.
 pub fn push_changed<L: StringList, R: StringList>(
     alloc: Global,
     out: &mut Vec<u8>,
@@ -41,8 +41,8 @@ pub fn push_changed<L: StringList, R: StringList>(
     Ok(())
 }
 
-/// Appends the line of a left row that has no partner. The line is the same in the report of any
-/// two tables whose left one has this row.
+/// Appends the line of a left row without a partner. It equals the line that `diff_run` writes for
+/// this row.
 pub fn push_removed<L: StringList>(
     alloc: Global,
     out: &mut Vec<u8>,
@@ -56,14 +56,14 @@ pub fn push_removed<L: StringList>(
         → out.new.items ≡ out.old.items
         ++ row_alone frame.now.format Removed (naming_of s) s.left i) }
 {
-    // Only one of these sides is printed.
+    // Only one of the two equal sides is printed.
     let sides = sides_of(alloc, frame, row, row)?;
     push_row(out, frame.format, Alone::Removed, &sides, &sides.left, 0)?;
     Ok(())
 }
 
-/// Appends the line of a right row that has no partner. The line is the same in the report of any
-/// two tables whose right one has this row.
+/// Appends the line of a right row without a partner. It equals the line that `diff_run` writes for
+/// this row.
 pub fn push_added<L: StringList>(
     alloc: Global,
     out: &mut Vec<u8>,
@@ -77,7 +77,7 @@ pub fn push_added<L: StringList>(
         → out.new.items ≡ out.old.items
         ++ row_alone frame.now.format Added (naming_of s) s.right i) }
 {
-    // Only one of these sides is printed.
+    // Only one of the two equal sides is printed.
     let sides = sides_of(alloc, frame, row, row)?;
     push_row(out, frame.format, Alone::Added, &sides, &sides.right, 0)?;
     Ok(())

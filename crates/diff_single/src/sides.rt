@@ -1,4 +1,4 @@
-//! Sides of one row each.
+//! Makes tables of a single row.
 
 ghost use Rattle.std.specs.Option.{option_map};
 ghost use Rattle.std.specs.Prelude.{◌≡◌, ◌<◌, ◌∷◌, [], All, length, IfOk};
@@ -28,7 +28,7 @@ fn table_of<L: StringList>(alloc: Global, cells: &L) -> Result<Table, AllocError
     }
 }
 
-/// Returns a side of one row.
+/// Returns a side whose table has one row.
 fn side_of<L: StringList>(alloc: Global, name: &[u8], row: &Row<'_, L>) -> Result<Side, AllocError>
     ensures { IfOk result
         (IsOneRow name.now (L.strings row.now.cells.now) row.now.number row.now.line) }
@@ -45,7 +45,7 @@ fn side_of<L: StringList>(alloc: Global, name: &[u8], row: &Row<'_, L>) -> Resul
     })
 }
 
-/// Clones an array, which shares its bytes.
+/// Clones an array. The clone shares the bytes.
 fn cloned(alloc: Global, names: &BinaryArray<i64>) -> Result<BinaryArray<i64>, AllocError>
     ensures { IfOk result (λ copy. copy ≡ names.now) }
 {
@@ -55,7 +55,7 @@ fn cloned(alloc: Global, names: &BinaryArray<i64>) -> Result<BinaryArray<i64>, A
     }
 }
 
-/// Copies a text, where there is one.
+/// Returns a copy of a text, or `None` for `None`.
 fn copied(alloc: Global, text: Option<&[u8]>) -> Result<Option<Vec<u8>>, AllocError>
     ensures { IfOk result
         (λ copy. option_map (λ v. v.items) copy ≡ option_map (λ v. v.now) text.entry) }
@@ -66,7 +66,7 @@ fn copied(alloc: Global, text: Option<&[u8]>) -> Result<Option<Vec<u8>>, AllocEr
     }
 }
 
-/// Returns the sides of two rows.
+/// Returns two sides with one row each.
 pub(crate) fn sides_of<'r, L: StringList, R: StringList>(
     alloc: Global,
     frame: &Frame<'_>,

@@ -1,4 +1,4 @@
-//! Why two sorted inputs are not compared.
+//! The errors of comparing two sorted inputs.
 
 ghost use Rattle.diff_sorted.specs.Faults.{IsFaultOf, IsMemory, IsRunCause};
 
@@ -8,20 +8,21 @@ use diff_run::error::RunError;
 use std::alloc::AllocError;
 use thiserror::Error;
 
-/// The reason why two sorted inputs are not compared. Nothing was written, unless a write failed.
+/// An error of comparing two sorted inputs. Except for a failed write, nothing was written.
 #[derive(Debug, Drop, Error)]
 pub enum SortedError {
-    /// There is no key, or numbers, tolerances or a part are asked for.
+    /// The options don't suit sorted inputs: there is no key, or they have numbers, tolerances or a
+    /// part.
     #[error("sorted inputs are compared by a key, as texts, exactly, and whole")]
     Refused,
-    /// A row has a key that is less than that of the row before it. `line` is where it begins.
+    /// A row has a lesser key than the row before it. `line` is the line at which the row begins.
     #[error("the row at line {line} has a lesser key than the row before it")]
     Falls { side: Side, line: u64 },
-    /// Two adjacent rows have one key, where keys have to be unique. `first` and `again` are the
-    /// lines at which they begin.
+    /// Two adjacent rows have the same key, but keys must be unique. `first` and `again` are the
+    /// lines at which the rows begin.
     #[error("the rows at lines {first} and {again} have one key")]
     KeyTwice { side: Side, first: u64, again: u64 },
-    /// A reason that is not about the order of rows.
+    /// An error that has nothing to do with the order of rows.
     #[error("{cause}")]
     Run { cause: RunError },
 }

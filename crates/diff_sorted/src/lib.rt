@@ -1,4 +1,5 @@
-//! Compares two CSV inputs that are sorted by key, in memory for a few rows and the report.
+//! Compares two CSV inputs that are sorted by key. Only a few rows of each input and the report are
+//! in memory.
 #![tactic(auto)]
 
 pub mod error;

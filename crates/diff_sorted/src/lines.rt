@@ -1,4 +1,4 @@
-//! The lines of the first differences of a kind.
+//! Collects the lines of the first differences of a kind.
 
 ghost use Rattle.std.specs.List.{concat};
 ghost use Rattle.std.specs.Prelude.{◌≡◌, ◌≤◌, [], ℕ, List, take, OnOk};
@@ -6,19 +6,20 @@ ghost use Rattle.diff_sorted.specs.Lines.{HasLines, IsClosed, IsPassed};
 
 use std::alloc::{AllocError, Global};
 
-/// The lines of the first differences of one kind, and the count of all differences of that kind.
+/// The lines of the first differences of one kind (changed, removed or added), and the number of
+/// all differences of this kind.
 #[derive(Drop)]
 pub struct Lines {
     /// The lines, one after another.
     pub(crate) text: Vec<u8>,
-    /// The end of each line in `text`.
+    /// For each line the offset in `text` at which it ends.
     pub(crate) ends: Vec<usize>,
-    /// The number of differences, those without a line included.
+    /// The number of all differences, including those without a line.
     pub(crate) count: usize,
 }
 
 impl Lines {
-    /// Returns no lines and the count 0.
+    /// Creates a collection without lines, with the count 0.
     pub fn new(alloc: Global) -> Lines
         ensures { (limit : ℕ) → HasLines limit [] result }
     {
@@ -29,7 +30,7 @@ impl Lines {
         }
     }
 
-    /// Counts one more difference, without a line. Fails if the count overflows.
+    /// Counts one more difference, which has no line. Fails if the count overflows.
     pub(crate) fn pass(&mut self) -> Result<(), AllocError>
         ensures { OnOk result (IsPassed self.old self.new) }
     {
@@ -40,7 +41,8 @@ impl Lines {
         Ok(())
     }
 
-    /// Counts one more difference, and ends its line, which was appended to `text`.
+    /// Counts one more difference, whose line was just appended to `text`. Fails if the count
+    /// overflows or an allocation fails.
     pub(crate) fn close(&mut self) -> Result<(), AllocError>
         ensures { OnOk result (IsClosed self.old self.new) }
     {
@@ -50,8 +52,8 @@ impl Lines {
         Ok(())
     }
 
-    /// Returns the first `room` lines, or all if there are fewer. `room` is at most the limit of
-    /// lines that were kept.
+    /// Returns the first `room` lines, or all if there are fewer. `room` must be at most the limit
+    /// of stored lines.
     pub fn first(&self, room: usize) -> &[u8]
         ensures { (limit : ℕ) (all : List (List ℕ)) → room ≤ limit → HasLines limit all self.now
             → result.now ≡ concat (take room all) }

@@ -1,4 +1,4 @@
-//! The report of two sorted texts, as far as it was told of their rows.
+//! Collects the report of two sorted texts, while their rows are merged.
 
 ghost use Rattle.std.specs.Prelude.{◌≡◌, ◌<◌, ◌-◌, ◌^◌, [], suc, All, IfOk, IsTrue, OnOk};
 ghost use Rattle.diff_keys.specs.declared.matching.Matching.{Matching};
@@ -17,30 +17,30 @@ use diff_tables::string_list::StringList;
 use polars_arrays_flat::byte_rows::ByteRows;
 use std::alloc::{AllocError, Global};
 
-/// The most rows that a report takes.
+/// The most rows of a text that a report accepts.
 const MOST_ROWS: u64 = 1 << 62;
 
-/// The report of two sorted texts: the lines of the first differences, and the counts.
+/// The report of two sorted texts, so far: the lines of the first differences, and the counts.
 #[derive(Drop)]
 pub struct SortedReport<'a> {
     pub(crate) alloc: Global,
     /// The names and options that all lines share.
     pub(crate) frame: Frame<'a>,
-    /// The most differences of a kind that have a line.
+    /// The most differences of each kind that get a line.
     pub(crate) limit: usize,
-    /// The pairs of partners that differ, in the order of their keys.
+    /// The matched pairs that differ.
     pub(crate) changed: Lines,
-    /// The left rows that have no partner.
+    /// The left rows without a partner.
     pub(crate) removed: Lines,
-    /// The right rows that have no partner.
+    /// The right rows without a partner.
     pub(crate) added: Lines,
-    /// The number of pairs of partners that are the same.
+    /// The number of matched pairs whose rows are equal.
     pub(crate) same: usize,
-    /// For each column, the number of pairs in which it differs.
+    /// For each column, the number of matched pairs that differ in it.
     pub(crate) counts: Vec<usize>,
 }
 
-/// Returns whether each of some numbers is below a bound.
+/// Returns whether each of `numbers` is less than `bound`.
 fn are_below(numbers: &[usize], bound: usize) -> bool
     ensures { IsTrue result → All (λ n. n < bound) numbers.now }
 {
@@ -52,7 +52,7 @@ fn are_below(numbers: &[usize], bound: usize) -> bool
     true
 }
 
-/// Returns `n + 1`, or an error if it overflows.
+/// Returns `n + 1`, or an error if this overflows.
 fn one_more(n: usize) -> Result<usize, AllocError>
     ensures { IfOk result (λ m. m ≡ suc n) }
 {
@@ -63,7 +63,7 @@ fn one_more(n: usize) -> Result<usize, AllocError>
 }
 
 impl<'a> SortedReport<'a> {
-    /// Returns the report of no rows.
+    /// Creates a report that has received no rows.
     pub fn new(
         alloc: Global,
         frame: Frame<'a>,
@@ -87,7 +87,7 @@ impl<'a> SortedReport<'a> {
         })
     }
 
-    /// Tests that a row has the columns of the report, and that there are not too many rows.
+    /// Checks that a row has the columns of the report, and that its number is below `MOST_ROWS`.
     fn test_row(&self, row: &Row<'_>) -> Result<(), AllocError>
         ensures { OnOk result (IsFit self.now row.now) }
     {
@@ -108,7 +108,7 @@ impl<'a> SortedReport<'a> {
         Ok(())
     }
 
-    /// Tests that each count can be raised.
+    /// Checks that each count by column can be increased without overflow.
     fn test_counts(&self) -> Result<(), AllocError>
         ensures { OnOk result (All (λ n. n < 2 ^ 64 - 1) self.now.counts.items) }
     {

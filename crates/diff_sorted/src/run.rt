@@ -1,4 +1,4 @@
-//! The whole comparison of sorted inputs, from two readers to a writer.
+//! Compares two sorted CSV inputs, from two readers to a writer.
 
 ghost use Rattle.std.specs.Prelude.{◌≡◌, ◌⊎◌, ◌||◌, if◌then◌else◌, ℕ, List, Some, IfErr, IfOk};
 ghost use Rattle.std.specs.Prelude.{MatchResult};
@@ -36,7 +36,8 @@ use diff_single::frame;
 use std::alloc::Global;
 use std::io::{Read, Write};
 
-/// Tests that the options ask for a comparison by a key, as texts, of the whole inputs.
+/// Checks that the options have a key, and have neither numbers nor tolerances nor a part. The only
+/// error is `Refused`.
 fn test_options(options: &Options<'_>) -> Result<(), SortedError>
     ensures { MatchResult result (λ _. CanBeSorted options.now)
         (λ error. (left_text right_text : List ℕ)
@@ -61,7 +62,8 @@ fn test_options(options: &Options<'_>) -> Result<(), SortedError>
     Ok(())
 }
 
-/// Returns the names and options that all lines of a report share, borrowed from `frame`.
+/// Returns the names and options that all lines of a report share. The names are borrowed from
+/// `frame`.
 fn lent<'a>(frame: &'a Frame, options: &Options<'_>) -> frame::Frame<'a>
     ensures { IsLentFrame options.now frame.now result }
 {
@@ -76,7 +78,7 @@ fn lent<'a>(frame: &'a Frame, options: &Options<'_>) -> frame::Frame<'a>
     }
 }
 
-/// Merges the rows of two sorted inputs, and returns the report that received them.
+/// Merges the rows of two sorted inputs into a report, and returns it.
 fn told_of<'f, L: Read + Drop, R: Read + Drop>(
     alloc: Global,
     left: Source<L>,
@@ -119,7 +121,8 @@ fn told_of<'f, L: Read + Drop, R: Read + Drop>(
     Ok(report)
 }
 
-/// Returns whether no column is in one input alone, or such columns are left out.
+/// Returns whether columns make no difference: no column is in one input alone, or the option
+/// `common` leaves such columns out.
 fn are_shared(options: &Options<'_>, layout: &Layout) -> bool
     ensures { result ≡ options.now.common || no_columns layout.now }
 {
@@ -127,7 +130,7 @@ fn are_shared(options: &Options<'_>, layout: &Layout) -> bool
     options.common || same_columns
 }
 
-/// Returns `Same` if the rows and the columns are the same, and `Different` otherwise.
+/// Returns `Same` if both arguments are true, and else `Different`.
 fn outcome_by(same_rows: bool, same_columns: bool) -> Outcome
     ensures { result ≡ if same_rows then (if same_columns then Same else Different) else Different }
 {
@@ -140,7 +143,8 @@ fn outcome_by(same_rows: bool, same_columns: bool) -> Outcome
     Outcome::Same
 }
 
-/// Returns the outcome of a report: whether the two inputs are the same.
+/// Returns the outcome of a comparison: `Same` if there are no differences in rows and, unless
+/// `common` is set, none in columns.
 fn outcome_of(options: &Options<'_>, layout: &Layout, report: &SortedReport<'_>) -> Outcome
     ensures { (left_rows right_rows : List Seen) (s : Sides) (c : Comparison)
         → IsToldAs report.now left_rows right_rows s c
@@ -149,7 +153,7 @@ fn outcome_of(options: &Options<'_>, layout: &Layout, report: &SortedReport<'_>)
     outcome_by(report.is_same(), are_shared(options, layout))
 }
 
-/// Returns the whole report of two inputs from `told`, which received all their rows.
+/// Returns the text of the report and the outcome. `told` has received all rows of both inputs.
 fn report_of(
     alloc: Global,
     heads: &Heads,
@@ -175,7 +179,7 @@ fn report_of(
     Ok(Report { text, outcome })
 }
 
-/// Returns the report of two sorted inputs.
+/// Compares two sorted inputs, and returns the report and the outcome.
 fn report_on<L: Read + Drop, R: Read + Drop>(
     alloc: Global,
     left: Input<'_, L>,
@@ -205,10 +209,12 @@ fn report_on<L: Read + Drop, R: Read + Drop>(
     Ok(report)
 }
 
-/// Compares two inputs whose rows are sorted by key, byte by byte, and writes the report that `run`
-/// of `diff_run` writes. A few rows of each input are in memory, and the lines of the report. Fails
-/// with `Refused` only where there is no key, or numbers, tolerances or a part are asked for, and
-/// with `Falls` only where a row has a lesser key than the row before it. Then nothing is written.
+/// Compares two inputs whose rows are sorted by key, byte by byte. Writes the same report as `run`
+/// of `diff_run`, but has only a few rows of each input and the lines of the report in memory.
+///
+/// Fails with `Refused` if the options have no key, or have numbers, tolerances or a part. Fails
+/// with `Falls` if a row has a lesser key than the row before it. In both cases nothing was
+/// written.
 pub fn run_sorted<L: Read + Drop, R: Read + Drop, W: Write>(
     alloc: Global,
     left: Input<'_, L>,

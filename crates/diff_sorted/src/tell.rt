@@ -1,4 +1,4 @@
-//! Differences, whose lines are written where there is room, and which are counted.
+//! Adds differences to a report: each is counted, and the first ones get a line.
 
 ghost use Rattle.std.specs.Prelude.{◌≡◌, ◌<◌, ◌∷◌, ◌++◌, [], ℕ, List, All, length, slice_index};
 ghost use Rattle.std.specs.Prelude.{OnOk};
@@ -18,8 +18,7 @@ use diff_single::row::Row;
 use diff_tables::string_list::StringList;
 use std::alloc::{AllocError, Global};
 
-/// Counts two rows of one key that differ, and writes their line where there are fewer than
-/// `limit`.
+/// Counts a changed pair. Appends its line to `lines`, unless `limit` lines are there already.
 pub(crate) fn tell_changed<L: StringList, R: StringList>(
     alloc: Global,
     lines: &mut Lines,
@@ -50,7 +49,8 @@ pub(crate) fn tell_changed<L: StringList, R: StringList>(
     Ok(())
 }
 
-/// Counts a left row that has no partner, and writes its line where there are fewer than `limit`.
+/// Counts a left row without a partner. Appends its line to `lines`, unless `limit` lines are there
+/// already.
 pub(crate) fn tell_removed<L: StringList>(
     alloc: Global,
     lines: &mut Lines,
@@ -77,7 +77,8 @@ pub(crate) fn tell_removed<L: StringList>(
     Ok(())
 }
 
-/// Counts a right row that has no partner, and writes its line where there are fewer than `limit`.
+/// Counts a right row without a partner. Appends its line to `lines`, unless `limit` lines are
+/// there already.
 pub(crate) fn tell_added<L: StringList>(
     alloc: Global,
     lines: &mut Lines,

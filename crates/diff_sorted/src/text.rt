@@ -1,4 +1,4 @@
-//! The text of a report, once it was told of all rows.
+//! Writes the text of a report that has received all rows.
 
 ghost use Rattle.std.specs.List.{concat};
 ghost use Rattle.std.specs.Prelude.{◌≡◌, ◌++◌, List, take, OnOk};
@@ -19,7 +19,7 @@ use polars_arrays_flat::byte_rows::ByteRows;
 use std::alloc::AllocError;
 
 impl<'a> SortedReport<'a> {
-    /// Returns how many rows of each kind there are.
+    /// Returns the number of row pairs and rows of each kind.
     fn totals(&self) -> Totals
         ensures { (left_rows right_rows : List Seen) (s : Sides) (c : Comparison)
             → IsToldAs self.now left_rows right_rows s c → AreTotalsOf c result }
@@ -32,8 +32,8 @@ impl<'a> SortedReport<'a> {
         }
     }
 
-    /// Appends the lines of the first `limit` differences: the changed rows in left order, then the
-    /// removed ones, then the added ones.
+    /// Appends the lines of the first `limit` differences: the changed rows in the order of the
+    /// left rows, then the removed rows, then the added rows.
     fn push_lines(&self, out: &mut Vec<u8>) -> Result<(), AllocError>
         ensures { OnOk result ((left_rows right_rows : List Seen) (s : Sides) (c : Comparison)
             → IsToldAs self.now left_rows right_rows s c
@@ -51,7 +51,7 @@ impl<'a> SortedReport<'a> {
         Ok(())
     }
 
-    /// Appends the report of all rows.
+    /// Appends the report of the rows: the lines of the first differences, and the end.
     pub fn push(&self, out: &mut Vec<u8>) -> Result<(), AllocError>
         ensures { OnOk result ((left_rows right_rows : List Seen) (s : Sides) (c : Comparison)
             → IsToldAs self.now left_rows right_rows s c
@@ -68,7 +68,7 @@ impl<'a> SortedReport<'a> {
         Ok(())
     }
 
-    /// Returns whether no row makes a difference.
+    /// Returns whether no row is changed, removed or added.
     pub fn is_same(&self) -> bool
         ensures { (left_rows right_rows : List Seen) (s : Sides) (c : Comparison)
             → IsToldAs self.now left_rows right_rows s c

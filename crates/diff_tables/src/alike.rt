@@ -1,4 +1,4 @@
-//! Strings that are stored alike.
+//! Compares strings by their lengths and bytes, without looking at each string alone.
 
 ghost use Rattle.std.specs.Prelude.{◌≡◌, ◌+◌, ◌<◌, ◌≤◌, true, length, IfOk, OnOk};
 ghost use Rattle.polars_arrays_bytes.specs.OffsetStrings.{offset_strings};
@@ -12,20 +12,20 @@ use polars_arrays_flat::byte_rows::ByteRows;
 use polars_arrays_numbers::offset::Offset;
 use std::alloc::{AllocError, Global};
 
-/// Returns the bytes of `n` strings from string `at` on.
+/// Returns the bytes of `n` adjacent strings, from string `at` on.
 fn bytes_from<O: Offset>(array: &BinaryArray<O>, at: usize, n: usize) -> &[u8]
     requires { at + n ≤ length (offset_strings O.value array.now) }
     ensures { result.now ≡ all_bytes (window at n (offset_strings O.value array.now)) }
 {
-    // The sum below is at most this number, and so fits a `usize`.
+    // The sum below is at most this count, so it doesn't overflow a `usize`.
     let _count = array.count();
     let ends = array.offsets();
     let (from, to) = (ends[at].place(), ends[at + n].place());
     &array.values()[from..to]
 }
 
-/// Returns whether `n` strings from string `at` on have the same lengths as `n` others from string
-/// `from` on, place by place.
+/// Returns whether the `n` strings from `at` on in `left` have the same lengths as the `n` strings
+/// from `from` on in `right`, pair by pair.
 fn are_as_long<L: ByteRows, R: ByteRows>(
     left: &L,
     at: usize,
@@ -37,7 +37,7 @@ fn are_as_long<L: ByteRows, R: ByteRows>(
     requires right { from + n ≤ length (R.strings right.now) }
     ensures { result ≡ true → AreAsLong n at (L.strings left.now) from (R.strings right.now) }
 {
-    // The places below are less than these numbers, and so fit a `usize`.
+    // The indices below are less than these counts, so they don't overflow a `usize`.
     let (_left, _right) = (left.count(), right.count());
     for c in 0..n {
         if left.bytes(at + c).len() != right.bytes(from + c).len() {
@@ -47,9 +47,9 @@ fn are_as_long<L: ByteRows, R: ByteRows>(
     true
 }
 
-/// Returns whether `n` strings from string `at` on are stored like `n` others from string `from`
-/// on: with the same lengths, which `as_long` says, and with the same bytes. They are then the
-/// same.
+/// Returns whether the `n` strings from `at` on in `left` are stored like the `n` strings from
+/// `from` on in `right`: with the same lengths and the same bytes. The strings are then equal.
+/// `as_long` says whether the lengths are the same.
 fn are_alike<L: Offset, R: Offset>(
     left: &BinaryArray<L>,
     at: usize,
@@ -71,8 +71,9 @@ fn are_alike<L: Offset, R: Offset>(
     bytes_from(left, at, n) == bytes_from(right, from, n)
 }
 
-/// Returns for each pair from `start` up to `end` whether the strings of its two rows have the same
-/// lengths, place by place.
+/// Returns for each pair in `start..end` whether its two rows have strings of the same lengths,
+/// column by column. Pair `p` is row `left_rows[p]` of `left` and row `right_rows[p]` of `right`. A
+/// row is `width` adjacent strings.
 fn lengths_agree<L: Offset, R: Offset>(
     alloc: Global,
     left: &BinaryArray<L>,
@@ -92,7 +93,7 @@ fn lengths_agree<L: Offset, R: Offset>(
         (λ flags. TellLengths width (offset_strings L.value left.now)
         (offset_strings R.value right.now) left_rows.now right_rows.now start end flags.items) }
 {
-    // The places below are at most these numbers, and so fit a `usize`.
+    // The indices below are at most these counts, so they don't overflow a `usize`.
     let (_left, _right) = (left.count(), right.count());
     let (left, right) = (left.lent(), right.lent());
     let mut flags = Vec::with_capacity(alloc, end - start)?;
@@ -104,8 +105,8 @@ fn lengths_agree<L: Offset, R: Offset>(
     Ok(flags)
 }
 
-/// Appends the places of the pairs from `start` up to `end` that are not stored alike. `as_long`
-/// says for each pair whether the strings of its two rows have the same lengths.
+/// Appends the indices of the pairs in `start..end` that are not stored alike (`are_alike`).
+/// `as_long` has for each of these pairs whether its rows have strings of the same lengths.
 fn push_unlike<L: Offset, R: Offset>(
     places: &mut Vec<usize>,
     left: &BinaryArray<L>,
@@ -132,7 +133,7 @@ fn push_unlike<L: Offset, R: Offset>(
         (AreSameCells width (offset_strings L.value left.now) (offset_strings R.value right.now)
         left_rows.now right_rows.now) end places.new.items) }
 {
-    // The places below are at most these numbers, and so fit a `usize`.
+    // The indices below are at most these counts, so they don't overflow a `usize`.
     let (_left, _right) = (left.count(), right.count());
     for p in start..end {
         let at = width * left_rows[p] as usize;
@@ -144,8 +145,8 @@ fn push_unlike<L: Offset, R: Offset>(
     Ok(())
 }
 
-/// Returns the places of the pairs of rows, of `width` strings each, that are not stored with the
-/// same lengths and bytes. The rows of each pair that is left out are the same.
+/// Returns the indices of the pairs whose rows, of `width` strings each, don't have the same
+/// lengths and bytes. The two rows of every other pair are equal.
 pub(crate) fn unlike_pairs<L: Offset, R: Offset>(
     alloc: Global,
     left: &BinaryArray<L>,
@@ -164,7 +165,8 @@ pub(crate) fn unlike_pairs<L: Offset, R: Offset>(
 {
     let mut places = Vec::new(alloc);
     let mut start = 0;
-    // A block's ends are all read before its bytes, so that few reads wait for others.
+    // The offsets of a whole block are read before its bytes. The reads don't depend on each other,
+    // so the processor can wait for many of them at once.
     while start < left_rows.len() {
         let end = block_end(start, left_rows.len());
         let as_long = lengths_agree(alloc, left, left_rows, right, right_rows, width, start, end)?;

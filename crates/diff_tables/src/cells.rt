@@ -1,4 +1,4 @@
-//! The cells of a table.
+//! The cells of a table, stored as an array of byte strings.
 
 ghost use Rattle.std.specs.Prelude.{◌≡◌, ◌<◌, [], None, true, false, length, get_or, IfOk};
 ghost use Rattle.polars_arrays_bytes.specs.OffsetStrings.{offset_strings};
@@ -13,21 +13,21 @@ use polars_arrays_flat::byte_rows::ByteRows;
 use std::alloc::{AllocError, Global};
 use std::marker::Model;
 
-/// The array that cells are stored in.
+/// An array of cells with offsets of either width.
 #[derive(Drop)]
 enum Stored {
-    // An array with ends of 32 bits, and its bytes, which it shares.
+    // An array with 32-bit offsets, and the buffer of its bytes, which the array shares.
     Near(BinaryArray<i32>, Buffer<u8>),
-    // An array with ends of 64 bits.
+    // An array with 64-bit offsets.
     Far(BinaryArray<i64>),
 }
 
-/// Byte strings. Their ends have 32 bits if all of them are below 2^31.
+/// Byte strings. They have 32-bit offsets if all offsets are below 2^31.
 pub(crate) struct Cells {
     stored: Stored,
 }
 
-// By hand, so that each place where cells go out of scope is one call.
+// Written by hand, so that dropping cells is a single call in the compiled code.
 impl Drop for Cells {
     fn drop(self) {
         let Cells { stored } = self;
@@ -46,7 +46,7 @@ impl Model for Cells {
 }
 
 impl Cells {
-    /// Creates cells from an array and its bytes, whose ends have 32 bits.
+    /// Creates cells from an array with 32-bit offsets. `bytes` is the buffer of the array's bytes.
     pub(crate) fn near(array: BinaryArray<i32>, bytes: Buffer<u8>) -> Cells
         requires present { array.validity ≡ None }
         requires bytes { bytes.items ≡ array.values }
@@ -57,7 +57,7 @@ impl Cells {
         }
     }
 
-    /// Creates cells from an array whose ends have 64 bits.
+    /// Creates cells from an array with 64-bit offsets.
     pub(crate) fn far(array: BinaryArray<i64>) -> Cells
         requires { array.validity ≡ None }
         ensures { result ≡ record { strings = offset_strings (λ x. x) array; far = true } }
@@ -88,7 +88,8 @@ impl Cells {
         }
     }
 
-    /// Lists the pairs of rows of `width` strings each that are not stored alike.
+    /// Returns the indices of the pairs of rows, of `width` strings each, that don't have the same
+    /// lengths and bytes. The two rows of every other pair are equal.
     pub(crate) fn unlike_pairs(
         &self,
         alloc: Global,
@@ -121,7 +122,7 @@ impl Cells {
         }
     }
 
-    /// Lends the strings.
+    /// Returns the strings as a borrowed array.
     pub(crate) fn lent(&self) -> LentCells<'_>
         ensures strings { strings_of result ≡ self.now.strings }
         ensures whole { AreWhole result }

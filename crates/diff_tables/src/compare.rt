@@ -1,4 +1,4 @@
-//! Two tables, compared by key.
+//! Compares two tables by key.
 
 ghost use Rattle.std.specs.Prelude.{◌≡◌, ◌<◌, All, length, map, slice_index, IfOk, MatchResult};
 ghost use Rattle.polars_arrays_bits.specs.Errors.{IsMemory};
@@ -22,16 +22,18 @@ use polars_arrays_bits::error::ComputeError;
 use polars_arrays_bytes::binary::BinaryArray;
 use std::alloc::{AllocError, Global};
 
-/// The rows of two tables, matched and compared.
+/// The result of comparing two tables.
 #[derive(Drop)]
 pub struct Comparison {
-    /// The rows that are partners, and those that have none.
+    /// The pairs of matched rows, and the rows without a partner.
     pub matching: Matching,
-    /// The places among the partners where the two rows differ, in rising order.
+    /// The indices of the matched pairs that differ, in ascending order. Index `k` means row
+    /// `matching.left_rows[k]` and row `matching.right_rows[k]`.
     pub changed: Vec<usize>,
 }
 
-/// Lists the pairs of rows that differ.
+/// Returns the indices of the pairs whose rows differ, in ascending order. Pair `p` is row
+/// `left_rows[p]` of `left` and row `right_rows[p]` of `right`.
 fn changed_rows(
     alloc: Global,
     left: &Table,
@@ -49,7 +51,7 @@ fn changed_rows(
     rows::changed_rows(alloc, left.lent(), left_rows, right.lent(), right_rows)
 }
 
-/// Returns the elements of `numbers` at some places.
+/// Returns the elements of `numbers` at these indices.
 fn numbers_at(alloc: Global, numbers: &[u32], places: &[usize]) -> Result<Vec<u32>, AllocError>
     requires { ArePlaces (length numbers.now) places.now }
     ensures { IfOk result (λ picked. picked.items ≡ map (slice_index numbers.now) places.now) }
@@ -61,7 +63,7 @@ fn numbers_at(alloc: Global, numbers: &[u32], places: &[usize]) -> Result<Vec<u3
     Ok(picked)
 }
 
-/// Returns the elements of `all` at some places.
+/// Returns the elements of `all` at these indices.
 fn places_at(alloc: Global, all: &[usize], places: &[usize]) -> Result<Vec<usize>, AllocError>
     requires { ArePlaces (length all.now) places.now }
     ensures { IfOk result (λ picked. picked.items ≡ map (slice_index all.now) places.now) }
@@ -73,7 +75,7 @@ fn places_at(alloc: Global, all: &[usize], places: &[usize]) -> Result<Vec<usize
     Ok(picked)
 }
 
-/// Lists the places among matched rows where the two differ.
+/// Returns the indices of the matched pairs whose rows differ, in ascending order.
 fn changed_places(
     alloc: Global,
     left: &Table,
@@ -89,7 +91,7 @@ fn changed_places(
         matching.now.right_rows.items) (length matching.now.left_rows.items) changed.items)
         IsMemory }
 {
-    // Most rows are stored alike, and so the same. The kernel says which of the others differ.
+    // Most pairs are stored alike, and are then equal. The kernel compares only the other pairs.
     let places = left.unlike_pairs(alloc, &matching.left_rows, right, &matching.right_rows)?;
     let left_rows = numbers_at(alloc, &matching.left_rows, &places)?;
     let right_rows = numbers_at(alloc, &matching.right_rows, &places)?;
@@ -98,7 +100,8 @@ fn changed_places(
     Ok(changed)
 }
 
-/// Matches left rows, which have the keys `left_keys`, with the rows of a table by its key columns.
+/// Matches the rows of a table with left rows by key. `left_keys` has the keys of the left rows.
+/// `columns` are the key columns of `right`.
 fn matched_with(
     alloc: Global,
     left_keys: &BinaryArray<i64>,
@@ -120,7 +123,7 @@ fn matched_with(
     }
 }
 
-/// Matches the rows of two tables that have the same cells in the key columns.
+/// Matches the rows of two tables by their cells in the key columns.
 fn matched(
     alloc: Global,
     left: &Table,
@@ -142,9 +145,11 @@ fn matched(
     }
 }
 
-/// Compares two tables of one width by their key columns: matches the rows, and lists the partners
-/// that differ. Fails with `TooManyRows` only where a table has more than 2^32 rows, and else with
-/// `Memory`.
+/// Compares two tables with the same number of columns. `columns` are the key columns: rows are
+/// matched by their cells in these, and the matched pairs that differ are listed.
+///
+/// Fails with `TooManyRows` if a table has more than 2^32 rows, and with `Memory` if an allocation
+/// fails.
 pub fn compare_tables(
     alloc: Global,
     left: &Table,
@@ -163,8 +168,8 @@ pub fn compare_tables(
     }
 }
 
-/// Finds the first row whose key an earlier row of the table has, and that earlier row. The one
-/// error is `Memory`.
+/// Returns the first row whose key an earlier row has, together with the earlier row. Returns
+/// `None` if all keys are different. The only error is `Memory`.
 pub fn key_twice(
     alloc: Global,
     table: &Table,

@@ -1,11 +1,11 @@
-//! Byte strings that show where they end.
+//! Encodes byte strings so that several of them can be concatenated without ambiguity.
 
 ghost use Rattle.std.specs.Prelude.{◌≡◌, ◌++◌, OnOk};
 ghost use Rattle.diff_tables.specs.Keys.{escaped, marked};
 
 use std::alloc::AllocError;
 
-/// Appends a byte, and after a zero also a 1.
+/// Appends a byte. A zero byte is written as 0 1.
 fn push_byte(out: &mut Vec<u8>, byte: u8) -> Result<(), AllocError>
     ensures { OnOk result (out.new.items ≡ out.old.items ++ marked byte) }
 {
@@ -18,7 +18,7 @@ fn push_byte(out: &mut Vec<u8>, byte: u8) -> Result<(), AllocError>
     Ok(())
 }
 
-/// Appends a byte string byte by byte so that its end shows.
+/// Appends a byte string, with each zero byte written as 0 1, and then the end mark 0 0.
 fn push_marked(out: &mut Vec<u8>, string: &[u8]) -> Result<(), AllocError>
     ensures { OnOk result (out.new.items ≡ out.old.items ++ escaped string.now) }
 {
@@ -30,7 +30,8 @@ fn push_marked(out: &mut Vec<u8>, string: &[u8]) -> Result<(), AllocError>
     Ok(())
 }
 
-/// Appends a byte string so that its end shows: a zero as 0 1, the end as 0 0.
+/// Appends a byte string, with each zero byte written as 0 1, and then the end mark 0 0. A string
+/// without zero bytes is copied at once.
 pub(crate) fn push_escaped(out: &mut Vec<u8>, string: &[u8]) -> Result<(), AllocError>
     ensures { OnOk result (out.new.items ≡ out.old.items ++ escaped string.now) }
 {

@@ -1,4 +1,4 @@
-//! The keys of a table's rows.
+//! Encodes the keys of a table's rows.
 
 ghost use Rattle.std.specs.Prelude.{◌≡◌, ◌<◌, [], All, length, get_or, OnOk, MatchResult};
 ghost use Rattle.polars_arrays_bits.specs.Errors.{IsMemory};
@@ -12,7 +12,8 @@ use polars_arrays_bits::error::ComputeError;
 use polars_arrays_bytes::binary::BinaryArray;
 use std::alloc::{AllocError, Global};
 
-/// Sets `key` to the key of row `i`.
+/// Sets `key` to the encoded key of row `i`: its cells in `columns`, one after another
+/// (`push_escaped`).
 fn write_key(
     key: &mut Vec<u8>,
     table: &Table,
@@ -30,8 +31,8 @@ fn write_key(
     Ok(())
 }
 
-/// Returns the keys of all rows: a row's cells in the key columns, each with its end. The one error
-/// is `Memory`.
+/// Returns the encoded key of each row of a table. Two rows have the same key exactly if they have
+/// the same cells in `columns`. The only error is `Memory`.
 pub fn keys_of(
     alloc: Global,
     table: &Table,

@@ -1,4 +1,4 @@
-//! Tables of cells, and the rows of two of them compared by key.
+//! Tables of cells, and the comparison of two tables by key.
 #![tactic(auto)]
 
 mod alike;

@@ -1,10 +1,10 @@
-//! Lists of byte strings.
+//! A trait for lists of byte strings.
 
 ghost use Rattle.std.specs.Prelude.{◌≡◌, ◌<◌, ℕ, List, [], length, get_or};
 
-/// A list of byte strings, each found by its place.
+/// A list of byte strings with access by index.
 pub trait StringList {
-    // The strings, the first one first.
+    // The strings of the list, in order.
     ghost strings: { Self → List (List ℕ) };
 
     /// Returns the number of strings.

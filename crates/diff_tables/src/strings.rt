@@ -1,4 +1,4 @@
-//! Byte strings that are appended one after another.
+//! A growable list of byte strings.
 
 ghost use Rattle.std.specs.Prelude.{◌≡◌, ◌≤◌, ◌<◌, ◌+◌, ◌++◌, ◌∷◌, [], ℕ, List, None, map, pos};
 ghost use Rattle.std.specs.Prelude.{vec_capacity, vec_len, IfOk, OnOk, MatchResult};
@@ -15,18 +15,18 @@ use polars_arrays_bits::error::ComputeError;
 use polars_arrays_bytes::binary::BinaryArray;
 use std::alloc::{AllocError, Global};
 
-/// Byte strings, one after another: string `k` lies between end `k` and end `k + 1`. An end takes 4
-/// bytes below 2^31, and 8 from there on.
+/// A growable list of byte strings, stored as offsets and bytes. String `k` is the bytes from
+/// offset `k` to offset `k + 1`. An offset takes 4 bytes if it is below 2^31, and else 8 bytes.
 #[derive(Drop)]
 pub struct Strings {
-    // A 0, and after it the ends of the first strings, as long as they fit 32 bits.
+    // The offset 0, and then the end of each of the first strings, while the ends fit into 32 bits.
     ends: Vec<i32>,
-    // The ends of the later strings.
+    // The ends of the remaining strings.
     far_ends: Vec<i64>,
     bytes: Vec<u8>,
 }
 
-/// Returns the cells between ends of 32 bits. The one error is `Memory`.
+/// Returns cells with these offsets (`ends`) and bytes. The only error is `Memory`.
 fn near_cells(alloc: Global, ends: Vec<i32>, bytes: Vec<u8>) -> Result<Cells, ComputeError>
     requires { (places : List ℕ) × (all : List (List ℕ)) × (ends.items ≡ map (λ n. pos n) places)
         × AreGroups places bytes.items all }
@@ -44,7 +44,7 @@ fn near_cells(alloc: Global, ends: Vec<i32>, bytes: Vec<u8>) -> Result<Cells, Co
 }
 
 impl Strings {
-    /// Returns no strings. The first end takes memory.
+    /// Creates an empty list. Fails if the first offset, 0, can't be allocated.
     pub fn new(alloc: Global) -> Result<Strings, AllocError>
         ensures { IfOk result (λ s. AreStrings s []) }
     {
@@ -59,7 +59,7 @@ impl Strings {
         })
     }
 
-    /// Appends a string, where there is room for its end.
+    /// Appends a string. `ends` must have spare capacity for one offset.
     #[inline(always)]
     fn push_within(&mut self, string: &[u8]) -> Result<(), AllocError>
         requires { vec_len self.old.ends < vec_capacity self.old.ends }
@@ -77,7 +77,7 @@ impl Strings {
                 return Ok(());
             }
         }
-        // No vector of bytes is as long as 2^63.
+        // No vector has 2^63 bytes.
         match i64::try_from(len) {
             Ok(end) => self.far_ends.push(end)?,
             Err(_) => return Err(AllocError),
@@ -96,7 +96,7 @@ impl Strings {
         Ok(())
     }
 
-    /// Appends the strings of a list.
+    /// Appends all strings of a list.
     pub fn push_all<S: StringList>(&mut self, strings: &S) -> Result<(), AllocError>
         ensures { OnOk result
             ((all : List (List ℕ)) → AreStrings self.old all
@@ -110,8 +110,8 @@ impl Strings {
         Ok(())
     }
 
-    /// Returns the array of the strings, whose clones share them. No byte is copied. The one error
-    /// is `Memory`.
+    /// Converts the list to an array. Clones of the array share its offsets and bytes. The bytes
+    /// are not copied. The only error is `Memory`.
     pub fn into_array(self, alloc: Global) -> Result<BinaryArray<i64>, ComputeError>
         requires { (all : List (List ℕ)) × AreStrings self all }
         ensures { MatchResult result
@@ -133,7 +133,7 @@ impl Strings {
         }
     }
 
-    /// Returns the strings as cells. No byte is copied. The one error is `Memory`.
+    /// Converts the list to cells. The bytes are not copied. The only error is `Memory`.
     pub(crate) fn into_cells(self, alloc: Global) -> Result<Cells, ComputeError>
         requires { (all : List (List ℕ)) × AreStrings self all }
         ensures { MatchResult result

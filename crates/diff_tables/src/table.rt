@@ -14,12 +14,12 @@ use polars_arrays_bits::error::ComputeError;
 use std::alloc::{AllocError, Global};
 use std::marker::Model;
 
-/// Rows of cells. Each row has the same number of cells, its width, and each cell is a byte string.
+/// A table of cells, which are byte strings. Each row has `width` cells.
 #[derive(Drop)]
 pub struct Table {
     width: usize,
     count: usize,
-    // The cells of all rows, the first row's first.
+    // The cells of all rows, row by row.
     cells: Cells,
 }
 
@@ -34,8 +34,8 @@ impl Model for Table {
 }
 
 impl Table {
-    /// Returns the table of `count` rows of `width` cells each, which are the strings one after
-    /// another. No byte is copied. The one error is `Memory`.
+    /// Creates a table of `count` rows with `width` cells each. `cells` has the cells row by row.
+    /// The bytes are not copied. The only error is `Memory`.
     pub fn new(
         alloc: Global,
         width: usize,
@@ -56,7 +56,7 @@ impl Table {
         })
     }
 
-    /// Returns the number of cells of each row.
+    /// Returns the number of cells in each row.
     pub fn width(&self) -> usize
         ensures { result ≡ self.now.width }
     {
@@ -76,13 +76,14 @@ impl Table {
         requires column { c < self.now.width }
         ensures { result.now ≡ get_or (get_or self.now.rows i []) c [] }
     {
-        // The place below is less than this number, and so fits a `usize`.
+        // The index below is less than this count, so it doesn't overflow a `usize`.
         let _cells = self.cells.count();
         self.cells.value(self.width * i + c)
     }
 
-    /// Lists the pairs of rows that are not stored alike. Rows are stored alike if their cells have
-    /// the same lengths and the same bytes. The rows of all other pairs are the same.
+    /// Returns the indices of the pairs of rows that are not stored alike. Rows are stored alike if
+    /// their cells have the same lengths and the same bytes. The two rows of every other pair are
+    /// equal. Pair `p` is row `rows[p]` of this table and row `other_rows[p]` of the other table.
     pub(crate) fn unlike_pairs(
         &self,
         alloc: Global,
@@ -101,7 +102,7 @@ impl Table {
             .unlike_pairs(alloc, rows, &other.cells, other_rows, self.width)
     }
 
-    /// Lends the rows.
+    /// Returns the rows as borrowed cells.
     pub(crate) fn lent(&self) -> LentRows<'_>
         ensures { Lends self.now result }
     {

@@ -1,4 +1,4 @@
-//! Cells that lie within a tolerance of each other.
+//! Tolerances for the numbers of a column.
 
 ghost use Rattle.std.specs.Prelude.{◌≡◌, false, MatchOption};
 ghost use Rattle.json_decimals.specs.Decimals.{decimal_of};
@@ -12,17 +12,17 @@ use json_decimals::numbers::numeral_of;
 use json_decimals::tens::tens_of;
 use json_tolerances::closeness::Margin;
 
-/// A column, and the margin within which its numbers may differ.
+/// A tolerance: the name of a column, and the margin by which its numbers may differ.
 #[derive(Drop)]
 pub struct Tolerance<'a> {
     /// The name of the column.
     pub column: &'a [u8],
-    /// The margin within which the numbers may differ.
+    /// The margin by which two numbers may differ.
     pub margin: Margin,
 }
 
-/// Returns the text of a cell if it is a number whose exponent has at most 30 digits, leading zeros
-/// not counted.
+/// Returns a cell as text if it is a number with an exponent of at most 30 digits, leading zeros
+/// not counted. Returns `None` for any other cell.
 fn narrow_number(cell: &[u8]) -> Option<&str>
     ensures { MatchOption result (is_narrow_number cell.now ≡ false)
         (λ text. IsNarrowNumeral cell.now text.now) }
@@ -34,7 +34,7 @@ fn narrow_number(cell: &[u8]) -> Option<&str>
     }
 }
 
-/// Returns whether two numbers lie within a margin.
+/// Returns whether two numbers differ by no more than the margin allows.
 fn is_within(margin: &Margin, left: &str, right: &str) -> bool
     requires left { ¬ HasWideExponent left.now }
     requires right { ¬ HasWideExponent right.now }
@@ -46,7 +46,8 @@ fn is_within(margin: &Margin, left: &str, right: &str) -> bool
     }
 }
 
-/// Returns whether two cells are numbers that lie within a margin.
+/// Returns whether two cells are numbers that differ by no more than the margin allows. Returns
+/// `false` if a cell is no number, or a number with an exponent of more than 30 digits.
 fn are_close(margin: &Margin, left: &[u8], right: &[u8]) -> bool
     ensures { result ≡ are_close margin.now left.now right.now }
 {
@@ -60,7 +61,7 @@ fn are_close(margin: &Margin, left: &[u8], right: &[u8]) -> bool
 }
 
 impl<'a> Tolerance<'a> {
-    /// Returns whether this allows two cells of a column to differ.
+    /// Returns whether this tolerance is for this column and allows the two cells to differ.
     fn allows(&self, column: &[u8], left: &[u8], right: &[u8]) -> bool
         ensures { result ≡ allows self.now column.now left.now right.now }
     {
@@ -68,7 +69,7 @@ impl<'a> Tolerance<'a> {
     }
 }
 
-/// Returns whether one of some tolerances allows two cells of a column to differ.
+/// Returns whether at least one of the tolerances allows the two cells of this column to differ.
 fn is_tolerated(tolerances: &[Tolerance<'_>], column: &[u8], left: &[u8], right: &[u8]) -> bool
     ensures { result ≡ is_tolerated tolerances.now column.now left.now right.now }
 {
@@ -78,7 +79,8 @@ fn is_tolerated(tolerances: &[Tolerance<'_>], column: &[u8], left: &[u8], right:
     tolerance.allows(column, left, right) || is_tolerated(rest, column, left, right)
 }
 
-/// Returns the cell that the right one of two cells of a column is compared by.
+/// Returns the cell to compare in place of the right cell: `left` if a tolerance allows the two to
+/// differ, so that they count as equal, and else `right`.
 pub(crate) fn cell_by<'a>(
     tolerances: &[Tolerance<'_>],
     column: &[u8],

@@ -1,4 +1,5 @@
-//! Tables in which numbers that lie within a tolerance of their partners' are replaced by these.
+//! Applies tolerances: numbers of the right table that are within a tolerance of their partner's
+//! number are replaced by that number. They then count as equal.
 #![tactic(auto)]
 
 pub mod cells;

@@ -1,4 +1,4 @@
-//! The partners of right rows.
+//! Finds the partner of each right row.
 
 ghost use Rattle.std.specs.Prelude.{◌≡◌, ◌<◌, All, length, IfOk, MatchResult};
 ghost use Rattle.polars_arrays_bytes.specs.OffsetStrings.{offset_strings};
@@ -14,7 +14,8 @@ use diff_tables::table::Table;
 use polars_arrays_bytes::binary::BinaryArray;
 use std::alloc::{AllocError, Global};
 
-/// Matches left rows, which have the keys `left_keys`, with the rows of a table by its key columns.
+/// Matches the rows of a table with left rows by key. `left_keys` has the keys of the left rows.
+/// `columns` are the key columns of `right`.
 fn matched_with(
     alloc: Global,
     left_keys: &BinaryArray<i64>,
@@ -36,7 +37,7 @@ fn matched_with(
     }
 }
 
-/// Matches the rows of two tables that have the same cells in the key columns.
+/// Matches the rows of two tables by their cells in the key columns.
 fn matched(
     alloc: Global,
     left: &Table,
@@ -58,8 +59,8 @@ fn matched(
     }
 }
 
-/// Returns for each of `count` right rows the left row that is listed at the same place, or `None`
-/// if the right row is not listed.
+/// Returns for each of `count` right rows its partner, or `None` if it has none. `left_rows[k]` is
+/// the partner of `right_rows[k]`.
 fn rows_beside(
     alloc: Global,
     left_rows: &[u32],
@@ -79,10 +80,11 @@ fn rows_beside(
     Ok(found)
 }
 
-/// Returns for each row of the right one of two tables its partner, or `None`. Rows that have the
-/// same cells in the key columns are partners, the first with the first.
+/// Returns for each right row its partner, the number of a left row, or `None` if it has none. Rows
+/// are matched by their cells in `columns`.
 ///
-/// Fails with `TooManyRows` only where a table has more than 2^32 rows, and else with `Memory`.
+/// Fails with `TooManyRows` if a table has more than 2^32 rows, and with `Memory` if an allocation
+/// fails.
 pub(crate) fn partners_of(
     alloc: Global,
     left: &Table,

@@ -1,4 +1,4 @@
-//! The rows that right rows are compared by.
+//! Applies tolerances to the rows of the right table.
 
 ghost use Rattle.std.specs.Prelude.{◌≡◌, ◌<◌, ◌++◌, ◌∷◌, [], ℕ, List, IfSome, length, get_or, OnOk};
 ghost use Rattle.polars_arrays_bytes.specs.OffsetStrings.{offset_strings};
@@ -12,7 +12,9 @@ use polars_arrays_bytes::binary::BinaryArray;
 use polars_arrays_flat::byte_rows::ByteRows;
 use std::alloc::AllocError;
 
-/// Returns the cell in a column that a right row is compared by, beside its partner, if it has one.
+/// Returns the cell to compare in place of a right cell. This is the cell of the partner if a
+/// tolerance allows the two to differ, and else the right cell. `partner` is the left partner of
+/// `row`, if it has one.
 fn cell_at<'a>(
     tolerances: &[Tolerance<'_>],
     names: &BinaryArray<i64>,
@@ -40,7 +42,8 @@ fn cell_at<'a>(
     }
 }
 
-/// Appends the cells that a right row is compared by, beside its partner, if it has one.
+/// Appends the cells to compare in place of a right row (`cell_at`). `partner` is the left partner
+/// of `row`, if it has one.
 pub(crate) fn push_row(
     cells: &mut Strings,
     tolerances: &[Tolerance<'_>],

@@ -1,4 +1,4 @@
-//! Tables that right tables are compared by.
+//! Applies tolerances to the right table.
 
 ghost use Rattle.std.specs.List.{flat_map, range_with_len};
 ghost use Rattle.std.specs.Prelude.{◌≡◌, ◌<◌, ℕ, All, IfOk, IfSome, None, length, get_or};
@@ -17,7 +17,8 @@ use diff_tables::table::Table;
 use polars_arrays_bytes::binary::BinaryArray;
 use std::alloc::{AllocError, Global};
 
-/// Returns the cells that all right rows are compared by, one row after another.
+/// Returns the cells to compare in place of those of the right table, row by row. `partners` has
+/// the left partner of each right row.
 fn tolerant_cells(
     alloc: Global,
     tolerances: &[Tolerance<'_>],
@@ -51,11 +52,12 @@ fn tolerant_cells(
     Ok(cells)
 }
 
-/// Returns the table that a right table is compared by. It has for each cell of a right row the
-/// cell of its partner, where one of the tolerances allows the two to differ, and otherwise the
-/// same cell. Rows that have the same cells in the key columns are partners.
+/// Returns the table to compare in place of the right table. A cell is replaced by the cell of its
+/// left partner if one of the tolerances allows the two to differ. All other cells are unchanged.
+/// Rows are matched by their cells in `columns`.
 ///
-/// Fails with `TooManyRows` only where a table has more than 2^32 rows, and else with `Memory`.
+/// Fails with `TooManyRows` if a table has more than 2^32 rows, and with `Memory` if an allocation
+/// fails.
 pub fn tolerant_table(
     alloc: Global,
     tolerances: &[Tolerance<'_>],

@@ -1,4 +1,5 @@
-//! The number of columns of a terminal that a text takes, and texts that are cut in the middle.
+//! Measures the width of texts on a terminal, and cuts texts to a width. Widths are in columns of
+//! the terminal.
 
 ghost use Rattle.std.specs.Prelude.{◌≡◌, ◌≤◌, ◌++◌, ◌-◌, OnOk};
 ghost use Rattle.diff_widths.specs.Cut.{beginning, char_columns, cut, ending, filler, shortened};
@@ -7,7 +8,8 @@ ghost use Rattle.diff_widths.specs.Cut.{spaces, width};
 use std::alloc::AllocError;
 use unicode_width::UnicodeWidthChar;
 
-/// Returns the number of columns that a single character takes.
+/// Returns the width of a character, in columns of the terminal. A character without a width, such
+/// as a control character, counts as 0.
 #[tactic(auto, unfolding(crate::specs::Cut::char_columns))]
 fn char_columns(c: char) -> usize
     ensures value { result ≡ char_columns c }
@@ -19,7 +21,8 @@ fn char_columns(c: char) -> usize
     }
 }
 
-/// Returns the number of columns that a text takes: the sum of those of its characters.
+/// Returns the width of a text, in columns of the terminal: the sum of the widths of its
+/// characters.
 pub fn width_of(text: &[char]) -> usize
     ensures { result ≡ width text.now }
 {
@@ -30,7 +33,7 @@ pub fn width_of(text: &[char]) -> usize
     total
 }
 
-/// Appends the longest beginning of a text that fits into the room.
+/// Appends the longest prefix of `text` that is at most `room` columns wide.
 fn push_beginning(out: &mut Vec<char>, text: &[char], room: usize) -> Result<(), AllocError>
     ensures { OnOk result (out.new.items ≡ out.old.items ++ beginning room text.now) }
 {
@@ -46,8 +49,8 @@ fn push_beginning(out: &mut Vec<char>, text: &[char], room: usize) -> Result<(),
     Ok(())
 }
 
-/// Appends the longest end of a text that fits into the room, without combining marks whose letter
-/// is not in it.
+/// Appends the longest suffix of `text` that is at most `room` columns wide and begins with a
+/// character of a width above 0. So it never begins with a combining mark whose letter is cut off.
 fn push_ending(out: &mut Vec<char>, text: &[char], room: usize) -> Result<(), AllocError>
     ensures { OnOk result (out.new.items ≡ out.old.items ++ ending room text.now) }
 {
@@ -63,7 +66,8 @@ fn push_ending(out: &mut Vec<char>, text: &[char], room: usize) -> Result<(), Al
     Ok(())
 }
 
-/// Appends a text that does not fit into the room: its beginning, `…` and its end.
+/// Appends `text` cut to `room` columns: its beginning, `…` and its end. Appends nothing if `room`
+/// is 0.
 fn push_shortened(out: &mut Vec<char>, text: &[char], room: usize) -> Result<(), AllocError>
     ensures { OnOk result (out.new.items ≡ out.old.items ++ shortened room text.now) }
 {
@@ -77,7 +81,8 @@ fn push_shortened(out: &mut Vec<char>, text: &[char], room: usize) -> Result<(),
     Ok(())
 }
 
-/// Appends a text unchanged if it fits into the room, and otherwise cut in the middle.
+/// Appends `text` unchanged if it is at most `room` columns wide, and else cut in its middle to
+/// that width.
 #[tactic(auto, unfolding(crate::specs::Cut::cut))]
 pub fn push_cut(out: &mut Vec<char>, text: &[char], room: usize) -> Result<(), AllocError>
     ensures { OnOk result (out.new.items ≡ out.old.items ++ cut room text.now) }
@@ -90,7 +95,7 @@ pub fn push_cut(out: &mut Vec<char>, text: &[char], room: usize) -> Result<(), A
     Ok(())
 }
 
-/// Appends `n` spaces.
+/// Appends `n` blanks.
 fn push_spaces(out: &mut Vec<char>, n: usize) -> Result<(), AllocError>
     ensures { OnOk result (out.new.items ≡ out.old.items ++ spaces n) }
 {
@@ -100,7 +105,8 @@ fn push_spaces(out: &mut Vec<char>, n: usize) -> Result<(), AllocError>
     Ok(())
 }
 
-/// Appends the spaces that fill the room after a text.
+/// Appends the blanks that fill `text` up to `room` columns. Appends nothing if `text` is as wide
+/// or wider.
 pub fn push_filler(out: &mut Vec<char>, text: &[char], room: usize) -> Result<(), AllocError>
     ensures { OnOk result (out.new.items ≡ out.old.items ++ filler room text.now) }
 {

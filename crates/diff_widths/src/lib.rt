@@ -1,4 +1,4 @@
-//! The number of columns of a terminal that a text takes.
+//! Measures the width of texts on a terminal.
 #![tactic(auto)]
 
 pub mod cut;

@@ -1,4 +1,4 @@
-//! Cells of CSV, as reports print them.
+//! Writes cells of CSV in text reports.
 
 ghost use Rattle.std.specs.Option.{option_map};
 ghost use Rattle.std.specs.Prelude.{◌≡◌, ◌++◌, OnOk};
@@ -9,7 +9,8 @@ use crate::colors::{Color, push_color};
 use crate::quoted::push_quoted;
 use std::alloc::AllocError;
 
-/// Returns whether a cell is the word that stands for no value (`--null`), if one is given.
+/// Returns whether `cell` equals the text that stands for no value (option `--null`). Returns
+/// `false` if `null` is `None`.
 pub fn is_null(null: &Option<Vec<u8>>, cell: &[u8]) -> bool
     ensures { result ≡ is_null (option_map (λ v. v.items) null.now) cell.now }
 {
@@ -19,7 +20,7 @@ pub fn is_null(null: &Option<Vec<u8>>, cell: &[u8]) -> bool
     }
 }
 
-/// Appends a cell between quotes, or `null` if it is the word that stands for no value.
+/// Appends `null` if the cell stands for no value (`is_null`), and else the cell between quotes.
 #[tactic(auto, unfolding(crate::specs::Cells::cell_text))]
 pub fn push_cell(out: &mut Vec<u8>, null: &Option<Vec<u8>>, cell: &[u8]) -> Result<(), AllocError>
     ensures { OnOk result
@@ -33,7 +34,7 @@ pub fn push_cell(out: &mut Vec<u8>, null: &Option<Vec<u8>>, cell: &[u8]) -> Resu
     Ok(())
 }
 
-/// Appends a cell, in a colour if the report has colours.
+/// Appends a cell (`push_cell`). If `colored`, it is in `color`, and the plain colour follows.
 #[tactic(auto, unfolding(crate::specs::Colors::painted))]
 pub fn push_painted_cell(
     out: &mut Vec<u8>,

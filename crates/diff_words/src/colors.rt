@@ -1,21 +1,21 @@
-//! Colours of texts on a terminal.
+//! Writes colours for a terminal.
 
 ghost use Rattle.std.specs.Prelude.{◌≡◌, ◌++◌, OnOk};
 ghost use Rattle.diff_words.specs.Colors.{color_code, color_text};
 
 use std::alloc::AllocError;
 
-/// A colour of the texts on a terminal.
+/// A text colour of a terminal.
 #[derive(Clone, Copy)]
 pub enum Color {
-    /// The terminal's own colour.
+    /// The default colour of the terminal.
     Plain,
     Red,
     Green,
     Yellow,
 }
 
-/// Returns the bytes that switch a terminal to a colour.
+/// Returns the escape sequence that switches the terminal to a colour.
 fn code_of(color: Color) -> &'static [u8]
     ensures { result.now ≡ color_code color }
 {
@@ -27,7 +27,8 @@ fn code_of(color: Color) -> &'static [u8]
     }
 }
 
-/// Appends the bytes that switch a terminal to a colour, if the report has colours.
+/// Appends the escape sequence that switches the terminal to a colour. Appends nothing if `colored`
+/// is false.
 #[tactic(auto, unfolding(crate::specs::Colors::color_text))]
 pub fn push_color(out: &mut Vec<u8>, colored: bool, color: Color) -> Result<(), AllocError>
     ensures { OnOk result (out.new.items ≡ out.old.items ++ color_text colored color) }

@@ -1,11 +1,11 @@
-//! Decimal numbers.
+//! Writes integers in decimal.
 
 ghost use Rattle.std.specs.Prelude.{◌≡◌, ◌++◌, OnOk};
 
 use itoa::{Buffer, Integer};
 use std::alloc::AllocError;
 
-/// Appends a number in decimal.
+/// Appends an integer in decimal.
 pub fn push_decimal<I: Integer>(out: &mut Vec<u8>, n: I) -> Result<(), AllocError>
     ensures { OnOk result (out.new.items ≡ out.old.items ++ I.text n) }
 {

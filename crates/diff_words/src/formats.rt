@@ -1,10 +1,10 @@
-//! Forms of reports.
+//! The forms of reports.
 
 /// The form of a report.
 #[derive(Clone, Copy)]
 pub enum Format {
-    /// Lines to read.
+    /// Lines of plain text.
     Text,
-    /// A JSON object in each line.
+    /// JSON lines: a JSON object on each line.
     Json,
 }

@@ -1,5 +1,5 @@
-//! Texts of cells, words and lists, colours, and forms of reports. No text of a cell or a word has
-//! a control character, whatever its bytes are.
+//! Writes the small parts of reports: cells, words, lists, numbers and colours. Cells and words
+//! contain no control characters, for any bytes.
 #![tactic(auto)]
 
 pub mod cells;

@@ -1,4 +1,4 @@
-//! Byte strings between quotes.
+//! Writes byte strings between quotes.
 
 ghost use Rattle.std.specs.Fmt.{digit_glyph};
 ghost use Rattle.std.specs.Prelude.{◌≡◌, ◌<◌, ◌++◌, false, get_or, OnOk};
@@ -7,7 +7,8 @@ ghost use Rattle.diff_words.specs.Quoted.{letter_of, quoted};
 
 use std::alloc::AllocError;
 
-/// Returns the letter that stands after a backslash for a byte.
+/// Returns the letter of the short escape of a byte, such as `n` for a line feed. Returns `None` if
+/// the byte has no short escape.
 fn letter_of(byte: u8) -> Option<u8>
     ensures { result ≡ letter_of byte }
 {
@@ -21,21 +22,22 @@ fn letter_of(byte: u8) -> Option<u8>
     }
 }
 
-/// Returns whether two bytes are a control character from U+0080 to U+009F in UTF-8.
+/// Returns whether two bytes are the UTF-8 encoding of a control character from U+0080 to U+009F.
 fn is_high_control(first: u8, second: u8) -> bool
     ensures { result ≡ is_high_control first second }
 {
     first == 194 && 127 < second && second < 160
 }
 
-/// Returns whether a byte between two others is a control character, or half of one.
+/// Returns whether `byte` is a control character, or one of the two bytes that encode one. `before`
+/// and `after` are the bytes next to it.
 fn is_hidden(before: u8, byte: u8, after: u8) -> bool
     ensures { result ≡ is_hidden before byte after }
 {
     byte < 32 || byte == 127 || is_high_control(before, byte) || is_high_control(byte, after)
 }
 
-/// Returns a hexadecimal digit, in small letters.
+/// Returns the hexadecimal digit of `n`, as a lower case letter from 10 on.
 fn hex_digit(n: u8) -> u8
     requires { n < 16 }
     ensures { result ≡ digit_glyph false n }
@@ -43,7 +45,7 @@ fn hex_digit(n: u8) -> u8
     if n < 10 { b'0' + n } else { b'a' + (n - 10) }
 }
 
-/// Appends a byte as two hexadecimal digits.
+/// Appends `\x` and a byte as two hexadecimal digits.
 fn push_hex(out: &mut Vec<u8>, byte: u8) -> Result<(), AllocError>
     ensures { OnOk result (out.new.items ≡ out.old.items ++ hex_text byte) }
 {
@@ -53,7 +55,8 @@ fn push_hex(out: &mut Vec<u8>, byte: u8) -> Result<(), AllocError>
     Ok(())
 }
 
-/// Appends the text for a byte of a quoted text, which stands between two other bytes.
+/// Appends a byte of a quoted string: unchanged, or escaped if it is a quote, a backslash or part
+/// of a control character. `before` and `after` are the bytes next to it.
 #[tactic(auto, unfolding(crate::specs::Quoted::byte_text))]
 fn push_byte(out: &mut Vec<u8>, before: u8, byte: u8, after: u8) -> Result<(), AllocError>
     ensures { OnOk result (out.new.items ≡ out.old.items ++ byte_text before byte after) }
@@ -71,14 +74,15 @@ fn push_byte(out: &mut Vec<u8>, before: u8, byte: u8, after: u8) -> Result<(), A
     Ok(())
 }
 
-/// Returns byte `i`, or 0 where there is none.
+/// Returns byte `i`, or 0 if `bytes` is shorter.
 fn byte_at(bytes: &[u8], i: usize) -> u8
     ensures { result ≡ get_or bytes.now i 0 }
 {
     if i < bytes.len() { bytes[i] } else { 0 }
 }
 
-/// Appends a byte string between quotes.
+/// Appends a byte string between double quotes. Quotes, backslashes and control characters are
+/// escaped.
 pub(crate) fn push_quoted(out: &mut Vec<u8>, bytes: &[u8]) -> Result<(), AllocError>
     ensures { OnOk result (out.new.items ≡ out.old.items ++ quoted bytes.now) }
 {

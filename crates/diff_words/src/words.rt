@@ -1,4 +1,4 @@
-//! Words: byte strings that need no quotes.
+//! Writes words. A word is a byte string that needs no quotes in a text report.
 
 ghost use Rattle.std.specs.List.{list_all};
 ghost use Rattle.std.specs.Prelude.{◌≡◌, ◌++◌, OnOk};
@@ -7,8 +7,9 @@ ghost use Rattle.diff_words.specs.Words.{is_word, is_word_byte, word_text};
 use crate::quoted::push_quoted;
 use std::alloc::AllocError;
 
-/// Returns whether a byte may stand in a word. The byte 194 may not: the characters from U+0080 to
-/// U+00BF begin with it, and some of these are control characters.
+/// Returns whether a word may contain a byte. Blanks, quotes, commas, `=`, backslashes and control
+/// characters are not allowed. Nor is the byte 194: characters from U+0080 to U+00BF begin with it,
+/// and some of these are control characters.
 fn is_word_byte(byte: u8) -> bool
     ensures { result ≡ is_word_byte byte }
 {
@@ -21,21 +22,22 @@ fn is_word_byte(byte: u8) -> bool
         && byte != 194
 }
 
-/// Returns whether each byte may stand in a word.
+/// Returns whether a word may contain each of these bytes.
 fn are_word_bytes(bytes: &[u8]) -> bool
     ensures { result ≡ list_all is_word_byte bytes.now }
 {
     bytes.iter().all(|byte| is_word_byte(*byte))
 }
 
-/// Returns whether a byte string is a word.
+/// Returns whether a byte string is a word: it isn't empty, and a word may contain each of its
+/// bytes.
 fn is_word(bytes: &[u8]) -> bool
     ensures { result ≡ is_word bytes.now }
 {
     !bytes.is_empty() && are_word_bytes(bytes)
 }
 
-/// Appends a byte string unchanged if it is a word, and otherwise between quotes.
+/// Appends a byte string: unchanged if it is a word, and else between quotes (`push_quoted`).
 #[tactic(auto, unfolding(crate::specs::Words::word_text))]
 pub fn push_word(out: &mut Vec<u8>, bytes: &[u8]) -> Result<(), AllocError>
     ensures { OnOk result (out.new.items ≡ out.old.items ++ word_text bytes.now) }
