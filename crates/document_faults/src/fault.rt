@@ -1,24 +1,23 @@
-//! Errors of reading a line as a document.
+//! The faults of a line that is not a document.
 
 use thiserror::Error;
 
-/// The reason why a line is no document.
+/// A fault of a line that is not a document.
 #[derive(Clone, Copy, Debug, Drop, Error, PartialEq, Eq)]
 pub enum LineFault {
-    /// The line is no UTF-8 or no JSON, or arrays and objects nest deeper than 128.
+    /// The line is not UTF-8 or not JSON, or arrays and objects nest deeper than 128 levels.
     #[error("no JSON")]
     Invalid,
-    /// An object has a name twice.
+    /// An object has two members with the same name.
     #[error("an object has a name twice")]
     RepeatedName,
-    /// The exponent of a number has more than 30 digits, its leading zeros not counted.
+    /// A number has an exponent of more than 30 digits, leading zeros not counted.
     #[error("an exponent has more than 30 digits")]
     WideExponent,
-    /// The line is JSON, but no object.
+    /// The line is JSON, but not an object.
     #[error("no JSON object")]
     NoObject,
-    /// The document has no part where the path of a key leads. `key` is the place of the key, the
-    /// first being 0.
+    /// The document has no value at the path of a key. `key` is the index of the key, from 0 on.
     #[error("no part at key {key}")]
     NoPart { key: usize },
 }

@@ -1,4 +1,4 @@
-//! Errors of reading a line as a JSON document, and the column of each.
+//! The faults of lines that are not JSON documents, and where in a line a fault is.
 #![tactic(auto)]
 
 pub mod fault;

@@ -1,4 +1,4 @@
-//! Checks that the exponents of a value's numbers are narrow.
+//! Checks that the exponents of numbers have at most 30 digits.
 
 ghost use Rattle.json.specs.Value.{items_view, members_view, value_view};
 ghost use Rattle.json_decimals.specs.Texts.{HasWideExponent};
@@ -9,11 +9,12 @@ use json::Value;
 use json_decimals::error::NumberError;
 use json_decimals::numbers::push_normal_number;
 
-/// The greatest number of digits in a narrow exponent, leading zeros not counted.
+/// The most digits that an exponent may have, leading zeros not counted.
 const MOST_DIGITS: usize = 30;
 
-/// Checks that a number's exponent is narrow. `room` holds its normal text, unless the number has
-/// few digits.
+/// Checks that the exponent of a number has at most 30 digits, and fails with `WideExponent` if
+/// not. `room` is memory that may be overwritten. A text of at most 30 bytes needs no further
+/// check.
 pub(crate) fn check_number(room: &mut Vec<u8>, text: &str) -> Result<(), NumberError>
     ensures { TellsNarrow result (¬ HasWideExponent text.now) }
 {
@@ -25,8 +26,8 @@ pub(crate) fn check_number(room: &mut Vec<u8>, text: &str) -> Result<(), NumberE
     Ok(())
 }
 
-/// Checks that no number of a value has a wide exponent. `room` is used for its numbers, one at a
-/// time.
+/// Checks that the exponents of all numbers in a value have at most 30 digits, and fails with
+/// `WideExponent` if not. `room` is memory that may be overwritten.
 #[cycle(narrow)]
 pub fn check_narrow<'a>(room: &mut Vec<u8>, value: &Value<'a>) -> Result<(), NumberError>
     ensures { TellsNarrow result (HasNarrowNumbers (value_view value.now)) }
@@ -39,7 +40,7 @@ pub fn check_narrow<'a>(room: &mut Vec<u8>, value: &Value<'a>) -> Result<(), Num
     }
 }
 
-/// Checks an array's items.
+/// Checks the numbers in the items of an array.
 #[cycle(narrow)]
 fn check_items<'a>(room: &mut Vec<u8>, items: &Vec<Value<'a>>) -> Result<(), NumberError>
     ensures { TellsNarrow result (ItemsHaveNarrowNumbers (items_view items.now.items)) }
@@ -50,7 +51,7 @@ fn check_items<'a>(room: &mut Vec<u8>, items: &Vec<Value<'a>>) -> Result<(), Num
     Ok(())
 }
 
-/// Checks the values of an object's members.
+/// Checks the numbers in the values of an object's members.
 #[cycle(narrow)]
 fn check_members<'a>(
     room: &mut Vec<u8>,

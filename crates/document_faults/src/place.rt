@@ -1,6 +1,6 @@
-//! The place in a line at which it is no document, for a message. No clause states which place this
-//! is: the `json` crate reports no place of an error, and has no clause about the places of its
-//! tokens.
+//! Finds the offset in a line at which its fault is, for messages. No contract says which offset
+//! this is: the `json` crate reports no offset of an error, and its contracts don't mention the
+//! offsets of tokens.
 
 use crate::fault::LineFault;
 use crate::narrow::check_number;
@@ -10,10 +10,11 @@ use std::alloc::{AllocError, Global};
 use std::collections::BTreeSet;
 use std::str::from_utf8;
 
-/// The greatest number of arrays and objects that may be open.
+/// The greatest depth to which arrays and objects may nest.
 const DEEPEST: usize = 128;
 
-/// Arrays and objects that are open, and whether a name stands before the next token.
+/// The state of a JSON reader: for each open array or object whether it is an object, from the
+/// outermost on, and whether the last token was the name of a member.
 #[derive(Drop)]
 struct Open {
     are_objects: Vec<bool>,
@@ -21,7 +22,7 @@ struct Open {
 }
 
 impl Open {
-    /// Returns whether a value may stand here. The first one is an object.
+    /// Returns whether a value may come next. Outside of all objects and arrays only an object may.
     fn takes_value(&self, is_object: bool) -> bool {
         match self.are_objects.last() {
             Some(true) => self.is_named,
@@ -30,7 +31,7 @@ impl Open {
         }
     }
 
-    /// Opens an array or an object. Returns whether it may stand here.
+    /// Opens an array or object. Returns `false` if it is not allowed here, or nests too deep.
     fn begin(&mut self, is_object: bool) -> Result<bool, AllocError> {
         if !self.takes_value(is_object) || self.are_objects.len() >= DEEPEST {
             return Ok(false);
@@ -40,12 +41,12 @@ impl Open {
         Ok(true)
     }
 
-    /// Closes an array or an object. Returns whether it may end here.
+    /// Closes an array or object. Returns `false` if this is not allowed here.
     fn end(&mut self, is_object: bool) -> bool {
         !self.is_named && self.are_objects.pop() == Some(is_object)
     }
 
-    /// Passes a token. Returns whether it may stand here.
+    /// Updates the state for the next token. Returns `false` if the token is not allowed here.
     fn pass(&mut self, token: Token<'_>) -> Result<bool, AllocError> {
         match token {
             Token::Bad => Ok(false),
@@ -67,12 +68,13 @@ impl Open {
     }
 }
 
-/// Returns whether a byte is a blank of JSON.
+/// Returns whether a byte is JSON whitespace.
 fn is_blank(byte: u8) -> bool {
     matches!(byte, b' ' | b'\t' | b'\r' | b'\n')
 }
 
-/// Returns the place of the first byte from a place on that is no blank.
+/// Returns the offset of the first byte at or after `from` that is not JSON whitespace, or the
+/// length of the text if there is none.
 fn past_blanks(text: &[u8], from: usize) -> usize {
     for place in from..text.len() {
         if !is_blank(text[place]) {
@@ -82,8 +84,10 @@ fn past_blanks(text: &[u8], from: usize) -> usize {
     text.len()
 }
 
-/// Returns the place of the first token that may not stand there in a JSON object. A string that
-/// has to be a name is one token with its colon, and a comma belongs to the token before it.
+/// Returns the byte offset at which `text` stops being a single JSON object: that of the first
+/// token that is not allowed, that of the first byte after the closed object that isn't blank, or
+/// the length of the text. The reader takes a name together with its colon as one token, and a
+/// comma together with the token before it.
 fn no_json_place(alloc: Global, text: &str, scratch: &mut Scratch) -> Result<usize, AllocError> {
     let mut reader = Reader::new(text, scratch)?;
     let mut open = Open {
@@ -105,7 +109,8 @@ fn no_json_place(alloc: Global, text: &str, scratch: &mut Scratch) -> Result<usi
     Ok(text.len())
 }
 
-/// Returns the place of the first name that its object has already.
+/// Returns the offset of the first name that an earlier member of its object has, or 0 if there is
+/// none.
 fn second_name_place(
     alloc: Global,
     text: &str,
@@ -134,7 +139,8 @@ fn second_name_place(
     Ok(0)
 }
 
-/// Returns the place of the first number whose exponent is wide. `room` is used for the numbers.
+/// Returns the offset of the first number whose exponent has more than 30 digits, or 0 if there is
+/// none. `room` is memory that may be overwritten.
 fn wide_place(text: &str, scratch: &mut Scratch, room: &mut Vec<u8>) -> Result<usize, AllocError> {
     let mut reader = Reader::new(text, scratch)?;
     for _ in 0..=text.len() {
@@ -152,7 +158,7 @@ fn wide_place(text: &str, scratch: &mut Scratch, room: &mut Vec<u8>) -> Result<u
     Ok(0)
 }
 
-/// Returns the column of a place: the number of characters before it, plus 1.
+/// Returns the column of the byte at this offset: the number of characters before it, plus 1.
 fn column_at(line: &[u8], place: usize) -> u64 {
     let before = line
         .iter()
@@ -162,7 +168,8 @@ fn column_at(line: &[u8], place: usize) -> u64 {
     (before as u64).saturating_add(1)
 }
 
-/// Returns the place of a fault, if it has one.
+/// Returns the byte offset of a fault in `text`. Returns `None` for `NoPart`, which has no offset.
+/// `room` is memory that may be overwritten.
 fn place_of(
     alloc: Global,
     text: &str,
@@ -180,8 +187,9 @@ fn place_of(
     Ok(Some(place))
 }
 
-/// Returns the column at which a line is no document, if its fault has a place. Columns are counted
-/// in characters, the first being 1.
+/// Returns the column of the fault in a line. Columns are counted in characters, from 1 on. If the
+/// line is not UTF-8, the result is the column of the first invalid byte. Returns `None` for
+/// `NoPart`, which has no column. `room` is memory that may be overwritten.
 pub fn column_of(
     alloc: Global,
     line: &[u8],

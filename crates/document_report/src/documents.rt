@@ -1,4 +1,4 @@
-//! The differences between two documents.
+//! Finds the differences between two documents.
 
 ghost use Rattle.std.specs.Prelude.{◌≡◌, ◌<◌, ℕ, List, length, map, IfOk};
 ghost use Rattle.document_words.specs.Sides.{AreDocumentSides};
@@ -17,7 +17,7 @@ use json_changes::changes::{Change, Rules, changes_under};
 use json_decimals::error::NumberError;
 use std::alloc::{AllocError, Global};
 
-/// Reads the tree of a document. The only error is that an allocation failed.
+/// Parses a line that is known to be a document. The only error is a failed allocation.
 fn read_tree<'a>(
     alloc: Global,
     line: &'a [u8],
@@ -34,8 +34,8 @@ fn read_tree<'a>(
     }
 }
 
-/// Lists the differences that are reported under rules between the trees of two documents. The only
-/// error is that an allocation failed.
+/// Returns the differences between two documents that are to be reported. `rules` decide which
+/// these are. The only error is a failed allocation.
 fn changes_in(
     alloc: Global,
     left: &Value<'_>,
@@ -54,8 +54,8 @@ fn changes_in(
     }
 }
 
-/// Lists the differences that are reported under rules between two documents. The only error is
-/// that an allocation failed.
+/// Parses two documents, and returns the differences between them that are to be reported. `rules`
+/// decide which these are. The only error is a failed allocation.
 fn changes_between(
     alloc: Global,
     left: &[u8],
@@ -75,8 +75,8 @@ fn changes_between(
     Ok(changes)
 }
 
-/// Lists the differences that are reported between the documents of left row `i` and right row `j`.
-/// The only error is that an allocation failed.
+/// Returns the differences to report between the documents of left row `i` and right row `j`. The
+/// only error is a failed allocation.
 pub(crate) fn changes_at(
     alloc: Global,
     sides: &DocumentSides<'_>,

@@ -1,4 +1,4 @@
-//! The report of a comparison of two files of documents, as text and as JSON lines.
+//! Writes the report of a comparison of two files of documents, as text or JSON lines.
 #![tactic(auto)]
 
 mod documents;

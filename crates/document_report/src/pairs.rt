@@ -1,4 +1,4 @@
-//! The lines of documents that differ.
+//! Writes the lines of documents that differ.
 
 ghost use Rattle.std.specs.List.{flat_map};
 ghost use Rattle.std.specs.Prelude.{◌≡◌, ◌<◌, ◌++◌, length, map, take, OnOk};
@@ -21,7 +21,7 @@ use document_words::sides::DocumentSides;
 use json_changes::changes::Change;
 use std::alloc::{AllocError, Global};
 
-/// Returns the text between two parts that differ.
+/// Returns the separator between two differences of a line.
 fn separator_in(format: Format) -> &'static [u8]
     ensures { result.now ≡ separator_in format }
 {
@@ -31,7 +31,7 @@ fn separator_in(format: Format) -> &'static [u8]
     }
 }
 
-/// Appends a part that differs.
+/// Appends a difference: its path, and the left and the right value.
 fn push_change_in(
     out: &mut Vec<u8>,
     format: Format,
@@ -48,7 +48,7 @@ fn push_change_in(
     }
 }
 
-/// Appends the parts that differ, one after another.
+/// Appends differences, with separators between them.
 fn push_changes(
     out: &mut Vec<u8>,
     format: Format,
@@ -65,7 +65,7 @@ fn push_changes(
     Ok(())
 }
 
-/// Appends the parts that differ between left row `i` and right row `j`, one after another.
+/// Appends the differences between the documents of left row `i` and right row `j`.
 fn push_differences(
     alloc: Global,
     out: &mut Vec<u8>,
@@ -87,7 +87,7 @@ fn push_differences(
     Ok(())
 }
 
-/// Appends the line of two documents that differ.
+/// Appends the text line of two documents that differ: `~`, the key and the differences.
 #[tactic(auto, unfolding(crate::specs::Pairs::pair_line, crate::specs::Pairs::pair_text, diff_words::specs::Colors::painted))]
 fn push_pair_line(
     alloc: Global,
@@ -113,7 +113,8 @@ fn push_pair_line(
     Ok(())
 }
 
-/// Appends the line of two documents that differ, in JSON.
+/// Appends the JSON line of two documents that differ: the key, the line numbers and the
+/// differences.
 #[tactic(auto, unfolding(crate::specs::Pairs::pair_json, crate::specs::Pairs::pair_object))]
 fn push_pair_object(
     alloc: Global,
@@ -140,7 +141,7 @@ fn push_pair_object(
     Ok(())
 }
 
-/// Appends the line of the pair at place `k` of the matched rows.
+/// Appends the line of matched pair `k`, whose documents differ.
 fn push_pair_at(
     alloc: Global,
     out: &mut Vec<u8>,
@@ -165,7 +166,8 @@ fn push_pair_at(
     }
 }
 
-/// Appends the lines of the first `limit` pairs of documents that differ.
+/// Appends the lines of the first `limit` pairs in `changed`, the indices of the matched pairs that
+/// differ.
 pub(crate) fn push_pairs(
     alloc: Global,
     out: &mut Vec<u8>,

@@ -1,4 +1,4 @@
-//! The report of a comparison of documents.
+//! Writes the report of a comparison of documents.
 
 ghost use Rattle.std.specs.List.{concat};
 ghost use Rattle.std.specs.Prelude.{◌≡◌, ◌≤◌, ◌++◌, length, take, OnOk};
@@ -17,8 +17,8 @@ use document_words::sides::DocumentSides;
 use document_words::skipped::push_skipped_lines;
 use std::alloc::{AllocError, Global};
 
-/// Appends the lines of the first `limit` differences: the changed documents in left order, then
-/// the removed ones, then the added ones.
+/// Appends the lines of the first `limit` differences: the changed documents in the order of the
+/// left file, then the removed documents, then the added documents.
 fn push_lines(
     alloc: Global,
     out: &mut Vec<u8>,
@@ -45,9 +45,9 @@ fn push_lines(
     Ok(())
 }
 
-/// Appends the text after the lines, where `changed` of the matched documents differ. In text this
-/// is the number of further differences, the summary, and the number of lines that are passed over.
-/// In JSON it is the counts.
+/// Appends the end of a report. In text these are the number of differences without a line, the
+/// summary and the numbers of skipped lines. In JSON it is the line with the counts. `changed` is
+/// the number of matched pairs that differ.
 fn push_end(
     out: &mut Vec<u8>,
     format: Format,
@@ -72,8 +72,8 @@ fn push_end(
 }
 
 /// Appends the report of a comparison of documents: the lines of the first `limit` differences, and
-/// then the counts. `changed` has the places of the matched documents that differ. The only error
-/// is that an allocation failed.
+/// then the counts. `changed` has the indices of the matched pairs that differ. The only error is a
+/// failed allocation.
 pub fn push_document_report(
     alloc: Global,
     out: &mut Vec<u8>,

@@ -1,4 +1,4 @@
-//! The cells of documents that are appended one after another.
+//! Collects the cells of documents.
 
 ghost use Rattle.std.specs.Prelude.{◌≡◌, ◌<◌, ◌++◌, ◌∷◌, [], ℕ, suc, true, List, IfErr, IfOk, OnOk};
 ghost use Rattle.std.specs.Prelude.{MatchResult, length, get_or};
@@ -27,15 +27,15 @@ use json::{Scratch, Value};
 use json_paths::path::Path;
 use std::alloc::{AllocError, Global};
 
-/// Buffers for a document, which are used for one line after another.
+/// Memory for parsing a document, which all documents share.
 #[derive(Drop)]
 pub(crate) struct Rooms {
     scratch: Box<Scratch>,
     room: Room,
 }
 
-/// Rows of documents, one document's cells after another's. With them are the numbers of their
-/// lines, and the numbers of the lines that are passed over.
+/// Collected documents: the cells of all rows one after another, the line number of each row, and
+/// the numbers of the lines that were skipped.
 #[derive(Drop)]
 pub(crate) struct Rows {
     pub(crate) cells: Strings,
@@ -43,7 +43,7 @@ pub(crate) struct Rows {
     pub(crate) skipped: Vec<u64>,
 }
 
-/// Appends the normal text of a document's part at a key, or that of null if there is none.
+/// Appends the normal text of the document's value at a key, or `null` if it has no value there.
 fn push_part(
     alloc: Global,
     cells: &mut Strings,
@@ -63,7 +63,7 @@ fn push_part(
     Ok(())
 }
 
-/// Appends the cells of a document's keys.
+/// Appends the normal text of the document's value at each key.
 fn push_parts(
     alloc: Global,
     cells: &mut Strings,
@@ -84,7 +84,7 @@ fn push_parts(
 }
 
 impl Rooms {
-    /// Returns empty buffers.
+    /// Allocates the memory.
     pub(crate) fn new(alloc: Global) -> Result<Rooms, AllocError> {
         let scratch = Box::new(alloc, Scratch::new(alloc))?;
         let number = Vec::new(alloc);
@@ -93,7 +93,8 @@ impl Rooms {
         Ok(Rooms { scratch, room })
     }
 
-    /// Returns the column of a fault in a line, if it has one.
+    /// Returns the column of the fault in a line (see `document_faults`), or `None` if the fault
+    /// has no column.
     pub(crate) fn column_of(
         &mut self,
         alloc: Global,
@@ -104,7 +105,7 @@ impl Rooms {
     }
 }
 
-/// Appends the cells of a row.
+/// Appends the cells of a row of `table`.
 fn push_cells(cells: &mut Strings, table: &Table, row: usize) -> Result<(), AllocError>
     requires row { row < length table.now.rows }
     requires width { length (get_or table.now.rows row []) ≡ table.now.width }
@@ -119,7 +120,7 @@ fn push_cells(cells: &mut Strings, table: &Table, row: usize) -> Result<(), Allo
 }
 
 impl Rows {
-    /// Returns no rows.
+    /// Creates an empty collection.
     pub(crate) fn new(alloc: Global) -> Result<Rows, AllocError>
         ensures { IfOk result
             (λ rows. (reading : Reading) (keys : List paths.Path)
@@ -135,7 +136,7 @@ impl Rows {
         })
     }
 
-    /// Appends a row of a table, for the line with this number.
+    /// Appends a copy of a row of `table`, for line `number` of the input.
     pub(crate) fn push_copy(
         &mut self,
         table: &Table,
@@ -155,8 +156,9 @@ impl Rows {
         Ok(())
     }
 
-    /// Appends the row of a document, which is the line with this number: the cells of the keys,
-    /// and the line. Appends nothing if the line is no document, or is one of another part.
+    /// Appends the row of a line: the normal text of the value at each key, and the line itself.
+    /// `number` is the number of the line. Appends nothing if the document is not in the part to
+    /// read. Fails with `Fault` if the line is not a document, and appends nothing then.
     pub(crate) fn push(
         &mut self,
         alloc: Global,
@@ -185,7 +187,7 @@ impl Rows {
         Ok(())
     }
 
-    /// Passes over the line with this number, which is no document.
+    /// Records line `number` as skipped.
     pub(crate) fn skip(&mut self, number: u64) -> Result<(), AllocError>
         ensures { OnOk result
             ((reading : Reading) (keys : List paths.Path) (lines : List (List ℕ)) (line : List ℕ)

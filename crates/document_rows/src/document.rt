@@ -1,4 +1,4 @@
-//! The documents of a table's rows.
+//! Gets the documents back from the rows of a table.
 
 ghost use Rattle.std.specs.Prelude.{◌≡◌, ◌<◌, length, IfOk};
 ghost use Rattle.json.specs.Strict.{HasUniqueKeys};
@@ -13,7 +13,7 @@ use json::{Error, Scratch, Value};
 use std::alloc::{AllocError, Global};
 use std::str::from_utf8;
 
-/// Returns the line that a row was read from.
+/// Returns the line from which a row was read. It is the last cell of the row.
 pub fn line_of(table: &Table, row: usize) -> &[u8]
     requires documents { HoldsDocuments table.now }
     requires row { row < length table.now.rows }
@@ -22,7 +22,8 @@ pub fn line_of(table: &Table, row: usize) -> &[u8]
     table.cell(row, table.width() - 1)
 }
 
-/// Returns the document of a row. `scratch` may be used for one document after another.
+/// Parses the document of a row. `scratch` is memory that can be reused for each document. The only
+/// error is a failed allocation.
 pub fn document_of<'a>(
     alloc: Global,
     table: &'a Table,

@@ -1,4 +1,4 @@
-//! Errors of reading an input of documents.
+//! The errors of reading documents.
 
 ghost use Rattle.document_rows.specs.Errors.{IsMemory};
 
@@ -7,19 +7,19 @@ use std::alloc::{AllocError, AllocFailed};
 use std::io;
 use thiserror::Error;
 
-/// The reason why an input of documents is not read.
+/// An error of reading the documents of an input.
 #[derive(Debug, Drop, Error)]
 pub enum ReadError {
     /// An allocation failed.
     #[error("out of memory")]
     Memory,
-    /// A read failed.
+    /// The reader that gives the input failed.
     #[error("{cause}")]
     Read {
         cause: io::Error,
     },
-    /// A line is no document. `line` is its number, the first being 1. `column` is the place of the
-    /// fault in it, if it has one: the number of characters before this place, plus 1.
+    /// A line is not a document. `line` is its number, from 1 on. `column` is where in the line the
+    /// fault is, in characters from 1 on, or `None` if the fault has no column.
     #[error("line {line}: {fault}")]
     Line {
         line: u64,

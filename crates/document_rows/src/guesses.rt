@@ -1,5 +1,5 @@
-//! Rows that may have been read from lines equal to the next ones. A guess may be wrong, so no
-//! clause speaks of it.
+//! Guesses for the next lines of the right input: rows of the left table that may have been read
+//! from equal lines. A guess may be wrong, so no contract mentions it.
 
 ghost use Rattle.document_rows.specs.Tables.{HoldsDocuments};
 
@@ -8,37 +8,37 @@ use diff_tables::table::Table;
 use memchr::memchr;
 use std::alloc::{AllocError, Global};
 
-/// The greatest number of lines in a block. All of them are looked up before any is worked on, so
-/// that few reads of memory wait for others.
+/// The most lines in a block. The lines of a block are first all looked up and then all processed.
+/// The lookups don't depend on each other, so the processor can wait for many of them at once.
 const BLOCK: usize = 256;
 
 /// A guess for each of the next lines: a row that may have been read from an equal line. A number
-/// that is no row of the table is no guess.
+/// that is not a row of the table means that there is no guess.
 #[derive(Drop)]
 pub(crate) struct Guesses {
     rows: Vec<usize>,
-    // The number of guesses that are taken.
+    // The number of guesses that were taken.
     next: usize,
 }
 
 impl Guesses {
-    /// Returns no guesses.
+    /// Creates an empty list of guesses.
     pub(crate) fn none(alloc: Global) -> Guesses {
         let rows = Vec::new(alloc);
         Guesses { rows, next: 0 }
     }
 
-    /// Returns these rows as guesses.
+    /// Creates a list of guesses from the row for each of the next lines.
     pub(crate) fn of(rows: Vec<usize>) -> Guesses {
         Guesses { rows, next: 0 }
     }
 
-    /// Returns whether no guess is left.
+    /// Returns whether all guesses were taken.
     pub(crate) fn are_spent(&self) -> bool {
         self.next >= self.rows.len()
     }
 
-    /// Takes the guess for the next line, if there is one.
+    /// Takes the guess for the next line. Returns `None` if all guesses were taken.
     pub(crate) fn take(&mut self) -> Option<usize> {
         if self.next >= self.rows.len() {
             return None;
@@ -49,13 +49,14 @@ impl Guesses {
     }
 }
 
-/// Splits the first line off some bytes, if they contain its end.
+/// Splits bytes at the first line feed: the line before it, and the rest after it. Returns `None`
+/// if there is no line feed.
 fn split_line<'a>(bytes: &'a [u8]) -> Option<(&'a [u8], &'a [u8])> {
     let end = memchr(b'\n', bytes)?;
     Some((&bytes[..end], &bytes[end + 1..]))
 }
 
-/// Returns the complete lines of some bytes, at most a block of them.
+/// Returns the complete lines at the beginning of `bytes`, but at most `BLOCK` lines.
 pub(crate) fn lines_in<'a>(alloc: Global, bytes: &'a [u8]) -> Result<Vec<&'a [u8]>, AllocError> {
     let mut lines = Vec::with_capacity(alloc, BLOCK)?;
     let mut rest = bytes;
@@ -69,7 +70,8 @@ pub(crate) fn lines_in<'a>(alloc: Global, bytes: &'a [u8]) -> Result<Vec<&'a [u8
     Ok(lines)
 }
 
-/// Returns the line of each of these rows, and an empty line for a number that is no row.
+/// Returns the line of each of `rows`, and an empty line for a number that is not a row of the
+/// table.
 fn lines_of<'a>(
     alloc: Global,
     table: &'a Table,
@@ -88,11 +90,12 @@ fn lines_of<'a>(
     Ok(lines)
 }
 
-/// The number of bytes that are read from memory at once.
+/// The distance between the bytes that `are_similar` compares. It is the size of a cache line on
+/// most processors.
 const PART: usize = 64;
 
-/// Returns whether two lines have the same length, and are equal at a byte of each part and at the
-/// last byte.
+/// Returns whether two lines have the same length, the same last byte, and the same byte at the
+/// start of each complete block of 64 bytes.
 #[inline(always)]
 fn are_similar(line: &[u8], other: &[u8]) -> bool {
     if line.len() != other.len() {
@@ -105,9 +108,9 @@ fn are_similar(line: &[u8], other: &[u8]) -> bool {
     similar
 }
 
-/// Returns each of these rows whose line is similar to the line at its place, and a number that is
-/// no row instead of each other row. This also loads the lines of the rows from memory before they
-/// are compared.
+/// Returns `rows`, with each row whose line is not similar to the line at the same index replaced
+/// by a number that is not a row. This also loads the lines of the remaining rows into the cache,
+/// before they are compared.
 pub(crate) fn likely_rows(
     alloc: Global,
     table: &Table,

@@ -1,5 +1,5 @@
-//! Lines of the left input, by which equal lines of the right one get their rows without being
-//! parsed.
+//! Looks up the lines of the right input among the lines of the left input. An equal line gets a
+//! copy of the left row, and does not have to be parsed.
 
 ghost use Rattle.std.specs.Prelude.{◌≡◌, ◌<◌, ◌≤◌, ◌+◌, ◌++◌, ◌∷◌, [], ℕ, suc, List, false, true};
 ghost use Rattle.std.specs.Prelude.{length, IfOk};
@@ -15,24 +15,24 @@ use crate::guesses::{Guesses, likely_rows, lines_in};
 use diff_tables::table::Table;
 use std::alloc::{AllocError, Global};
 
-/// An odd number whose bits look random: the golden ratio in 64 bits.
+/// An odd number with well mixed bits: 2^64 divided by the golden ratio.
 const SPREAD: u64 = 0x9e37_79b9_7f4a_7c15;
 
-/// The number of slots for each row, so that few lines share a slot.
+/// The number of slots per row. With 8, few lines share a slot.
 const SLOTS: usize = 8;
 
-/// Lines that rows of a table were read from. A document and its cells are a function of its line,
-/// so another line of the same bytes has the same row.
+/// The lines from which the rows of a table were read. Two equal lines have equal rows, so the row
+/// of a known line can be copied.
 #[derive(Drop)]
 pub(crate) struct Known<'a> {
     table: Option<&'a Table>,
-    // A hash table without chains: the slot of a line holds the row that was read from it. Where
-    // lines share a slot, the last one's row stays, and a slot of no line holds 0. A row found here
-    // is right only if its line is equal, which push_row tests.
+    // A hash table of rows, without collision handling: the slot of a line has the row that was
+    // read from the line. If several lines have the same slot, it has the row of the last one. An
+    // unused slot has 0. So `push_row` compares the line before it uses a row.
     slots: Vec<u32>,
 }
 
-/// Returns eight bytes of a line as a number.
+/// Returns the eight bytes of a line from index `at` on, as a little-endian number.
 #[inline(always)]
 fn word_at(line: &[u8], at: usize) -> u64
     requires { at + 8 ≤ length line.now }
@@ -49,13 +49,13 @@ fn word_at(line: &[u8], at: usize) -> u64
     ])
 }
 
-/// Mixes a number into another one.
+/// Returns a hash of two numbers.
 #[inline(always)]
 fn mixed(number: u64, other: u64) -> u64 {
     (number ^ other).wrapping_mul(SPREAD).rotate_left(29)
 }
 
-/// Returns a hash of a line of less than 32 bytes. `start` is mixed into it.
+/// Returns a hash of a line of less than 32 bytes and of `start`.
 #[inline(always)]
 fn spread_short(line: &[u8], start: u64) -> u64 {
     let mut number = start;
@@ -69,8 +69,8 @@ fn spread_short(line: &[u8], start: u64) -> u64 {
     number ^ (number >> 32)
 }
 
-/// Returns a hash of a line. It is made of four numbers. Each of these takes every fourth group of
-/// eight bytes, so that few products wait for others.
+/// Returns a hash of a line. Four independent hashes each take every fourth group of eight bytes,
+/// so the processor can compute them in parallel.
 fn spread(line: &[u8]) -> u64 {
     let parts = line.len() / 32;
     let (mut a, mut b, mut c, mut d) = (0, 1, 2, 3);
@@ -84,7 +84,7 @@ fn spread(line: &[u8]) -> u64 {
     spread_short(&line[32 * parts..], mixed(mixed(a, b), mixed(c, d)))
 }
 
-/// Returns the slot of a line.
+/// Returns the slot of a line: its hash modulo `count`, the number of slots.
 fn slot_of(line: &[u8], count: usize) -> usize
     requires { 0 < count }
     ensures { result < count }
@@ -93,7 +93,7 @@ fn slot_of(line: &[u8], count: usize) -> usize
 }
 
 impl<'a> Known<'a> {
-    /// Creates a hash table of no lines.
+    /// Creates a table in which no line is known.
     pub(crate) fn none(alloc: Global) -> Known<'a>
         ensures { (reading : Reading) (keys : List Path) → KnowsLines reading keys result }
     {
@@ -101,7 +101,7 @@ impl<'a> Known<'a> {
         Known { table: None, slots }
     }
 
-    /// Creates the hash table of the lines that a table of documents was read from.
+    /// Creates a table of the lines from which the rows of `table` were read.
     pub(crate) fn of(alloc: Global, table: &'a Table) -> Result<Known<'a>, AllocError>
         requires { HoldsDocuments table.now }
         ensures { IfOk result
@@ -122,7 +122,7 @@ impl<'a> Known<'a> {
         })
     }
 
-    /// Returns the slot of each line, or no slots if no line is known.
+    /// Returns the slot of each line. Returns no slots if no line is known.
     fn slots_for(&self, alloc: Global, lines: &[&[u8]]) -> Result<Vec<usize>, AllocError> {
         let mut slots = Vec::with_capacity(alloc, lines.len())?;
         if self.slots.is_empty() {
@@ -145,9 +145,9 @@ impl<'a> Known<'a> {
         Ok(rows)
     }
 
-    /// Returns for each of the first complete lines of some bytes, at most a block of them, a row
-    /// that may have been read from an equal line. Each step is taken for all of these lines before
-    /// the next step, so that memory is fetched for several lines at once.
+    /// Returns a guess for each of the first complete lines in `bytes`, at most a block of them: a
+    /// row that may have been read from an equal line. Each step is done for all lines before the
+    /// next step, so that the processor can fetch memory for several lines at once.
     pub(crate) fn guesses_for(&self, alloc: Global, bytes: &[u8]) -> Result<Guesses, AllocError>
         requires { (reading : Reading) × (keys : List Path) × KnowsLines reading keys self.now }
     {
@@ -161,7 +161,8 @@ impl<'a> Known<'a> {
         Ok(Guesses::of(rows))
     }
 
-    /// Returns a row that may have been read from an equal line.
+    /// Returns a row that may have been read from an equal line. It can be any number if the line
+    /// is not known.
     fn row_for(&self, line: &[u8]) -> usize {
         if self.slots.is_empty() {
             return 0;
@@ -169,8 +170,9 @@ impl<'a> Known<'a> {
         self.slots[slot_of(line, self.slots.len())] as usize
     }
 
-    /// Appends the row of a line, if the line is known. Returns whether it is. `number` is the
-    /// number of the line, and `guess` is a row that it may have.
+    /// Appends a copy of the row of a line, if the line is known. Returns whether it is known.
+    /// `number` is the number of the line. `guess` is a row to try; without a guess, the line is
+    /// looked up.
     pub(crate) fn push_row(
         &self,
         rows: &mut Rows,

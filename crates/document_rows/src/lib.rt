@@ -1,4 +1,4 @@
-//! Reads inputs of JSON documents, one a line, to tables, and finds the matched documents that
+//! Reads inputs with a JSON document on each line into tables, and finds the matched documents that
 //! differ.
 #![tactic(auto)]
 

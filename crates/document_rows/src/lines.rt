@@ -1,4 +1,4 @@
-//! The lines of an input, one after another.
+//! Reads the lines of an input, one after another.
 
 ghost use Rattle.std.specs.Prelude.{◌≡◌, ℕ, List, Some, IfOk};
 ghost use Rattle.document_rows.specs.LineParts.{TakesPart};
@@ -7,18 +7,19 @@ ghost use Rattle.document_rows.specs.Reading.{TakesLine};
 use memchr::memchr;
 use std::io::{BufRead, ErrorKind, Result};
 
-/// The state of a line after a read.
+/// The state of a line after a part of it was read.
 #[derive(Clone, Copy, Drop)]
 enum Part {
-    /// The line may go on.
+    /// The end of the line was not yet read.
     Open,
-    /// The line feed was read.
+    /// The line feed at the end of the line was read.
     Ended,
-    /// The input has ended.
+    /// The input has ended, and nothing was read.
     Nothing,
 }
 
-/// Appends the part of a line that a reader has at hand, without the line feed.
+/// Appends the bytes that the reader has buffered, up to the next line feed. The line feed is
+/// consumed but not appended.
 fn append_part<B: BufRead>(reader: &mut B, line: &mut Vec<u8>) -> Result<Part>
     ensures { IfOk result
         (λ part. (rest : List ℕ) → B.remaining reader.old ≡ Some rest
@@ -27,7 +28,7 @@ fn append_part<B: BufRead>(reader: &mut B, line: &mut Vec<u8>) -> Result<Part>
     let at_hand = match reader.fill_buf() {
         Ok(at_hand) => at_hand,
         Err(cause) => {
-            // The call was interrupted, and is made again.
+            // The read was interrupted. The caller tries again.
             if cause.kind() == ErrorKind::Interrupted {
                 return Ok(Part::Open);
             }
@@ -52,7 +53,7 @@ fn append_part<B: BufRead>(reader: &mut B, line: &mut Vec<u8>) -> Result<Part>
     }
 }
 
-/// Reads the next line into `line`, without its line feed. Returns whether there was one.
+/// Reads the next line into `line`, without its line feed. Returns `false` if the input has ended.
 pub(crate) fn read_line<B: BufRead>(reader: &mut B, line: &mut Vec<u8>) -> Result<bool>
     ensures { IfOk result
         (λ found. (rest : List ℕ) → B.remaining reader.old ≡ Some rest

@@ -1,4 +1,4 @@
-//! Pairs of documents with differences that are reported under rules.
+//! Finds the pairs of documents with a difference to report.
 
 ghost use Rattle.std.specs.Prelude.{◌≡◌, ◌<◌, ◌↔◌, ℕ, IsTrue, List, [], length, IfOk};
 ghost use Rattle.diff_keys.specs.Rising.{ListsRising};
@@ -17,7 +17,7 @@ use json_changes::changes::{Rules, are_same_under};
 use json_decimals::error::NumberError;
 use std::alloc::{AllocError, Global};
 
-/// Buffers for two documents, which are used for one pair after another.
+/// Memory for parsing two documents, which all pairs share.
 #[derive(Drop)]
 struct Scratches {
     left: Scratch,
@@ -25,7 +25,7 @@ struct Scratches {
 }
 
 impl Scratches {
-    /// Returns empty buffers.
+    /// Allocates the memory.
     fn new(alloc: Global) -> Result<Box<Scratches>, AllocError> {
         let left = Scratch::new(alloc);
         let right = Scratch::new(alloc);
@@ -34,7 +34,7 @@ impl Scratches {
     }
 }
 
-/// Returns whether no difference between the documents of two rows is reported.
+/// Returns whether the documents of two rows have no difference to report.
 fn are_same_documents(
     alloc: Global,
     left: &Table,
@@ -60,8 +60,7 @@ fn are_same_documents(
     }
 }
 
-/// Returns whether a difference is reported between the documents of the two rows at `place` among
-/// the matched rows.
+/// Returns whether the documents of matched pair `place` have a difference to report.
 fn is_other_pair(
     alloc: Global,
     left: &Table,
@@ -85,8 +84,8 @@ fn is_other_pair(
     Ok(!same)
 }
 
-/// Lists the places among the partners of a comparison where a difference between the two documents
-/// is reported under rules, in rising order.
+/// Returns the indices of the matched pairs whose documents have a difference to report, in
+/// ascending order. `rules` decide which differences are reported.
 pub fn differing_pairs(
     alloc: Global,
     left: &Table,

@@ -1,5 +1,5 @@
-//! The texts of a document's parts at the keys, and the part of all documents that these texts put
-//! it in.
+//! Writes the values of a document at the keys, and finds out whether the document is in the part
+//! to read. A value is written as its normal text, which all equal values share.
 
 ghost use Rattle.std.specs.List.{range_with_len};
 ghost use Rattle.std.specs.Prelude.{◌≡◌, map, IfOk, OnOk};
@@ -21,14 +21,14 @@ use json_paths::path::Path;
 use std::alloc::{AllocError, Global};
 use std::mem;
 
-/// Buffers for the numbers and the normal texts of parts.
+/// Memory for writing normal texts: `number` for single numbers, `text` for the result.
 #[derive(Drop)]
 pub(crate) struct Room {
     pub(crate) number: Vec<u8>,
     pub(crate) text: Vec<u8>,
 }
 
-/// Replaces the text of `room` with the normal text of a value.
+/// Sets `room.text` to the normal text of a value.
 fn write_text(alloc: Global, room: &mut Room, value: &Value<'_>) -> Result<(), AllocError>
     requires unique { HasUniqueKeys (value_view value.now) }
     requires narrow { HasNarrowNumbers (value_view value.now) }
@@ -46,8 +46,8 @@ fn write_text(alloc: Global, room: &mut Room, value: &Value<'_>) -> Result<(), A
     Ok(())
 }
 
-/// Replaces the text of `room` with the normal text of a document's part at a key, or that of null
-/// if there is none.
+/// Sets `room.text` to the normal text of the document's value at a key, or to `null` if it has no
+/// value there.
 pub(crate) fn write_part(
     alloc: Global,
     room: &mut Room,
@@ -72,8 +72,8 @@ pub(crate) fn write_part(
     }
 }
 
-/// Lists the normal texts of a document's parts at the keys. The text for a part that is missing is
-/// that of null.
+/// Returns the normal text of the document's value at each key, and `null` for each key at which it
+/// has no value.
 fn key_texts(
     alloc: Global,
     room: &mut Room,
@@ -94,14 +94,15 @@ fn key_texts(
     Ok(texts)
 }
 
-/// Lists the columns of `count` keys, which stand before the column of the line.
+/// Returns the columns of `count` keys in a table of documents: 0 to `count - 1`. The column after
+/// these has the line.
 pub fn key_columns(alloc: Global, count: usize) -> Result<Vec<usize>, AllocError>
     ensures { IfOk result (λ columns. columns.items ≡ range_with_len 0 count) }
 {
     (0..count).collect(alloc)
 }
 
-/// The texts of keys.
+/// The normal texts of a document's keys, as a list of strings.
 #[derive(Clone, Copy)]
 struct Texts<'a> {
     texts: &'a [Vec<u8>],
@@ -120,8 +121,8 @@ impl<'a> StringList for Texts<'a> {
     }
 }
 
-/// Returns whether a document is in `part`, by its parts at the keys. Without a part, returns
-/// `true`.
+/// Returns whether a document is in `part`. Its values at the keys decide. Returns `true` if `part`
+/// is `None`.
 pub(crate) fn is_in(
     alloc: Global,
     room: &mut Room,

@@ -1,4 +1,4 @@
-//! Inputs of documents, read to tables.
+//! Reads the documents of an input into a table.
 
 ghost use Rattle.std.specs.Io.Buffered.{reader_remaining};
 ghost use Rattle.std.specs.Prelude.{◌≡◌, ◌++◌, ◌∷◌, [], ℕ, suc, List, Some, length, IfErr, IfOk};
@@ -25,18 +25,19 @@ use std::alloc::{AllocError, Global};
 use std::io;
 use std::io::{BufRead, BufReader, ErrorKind, Read};
 
-/// Documents of an input, one a line.
+/// The documents that were read from an input with a document on each line.
 #[derive(Drop)]
 pub struct Documents {
-    /// A row for each document: the normal text of the part at each key, and then the line.
+    /// A row for each document. Its cells are the normal text of the value at each key, and then
+    /// the line.
     pub table: Table,
-    /// The number of the line of each row, the first line being 1.
+    /// The line number of each row. The first line is 1.
     pub lines: Vec<u64>,
-    /// The numbers of the lines that are passed over, since they are no documents.
+    /// The numbers of the lines that were skipped because they are not documents.
     pub skipped: Vec<u64>,
 }
 
-/// Returns the error for a failure of the reader.
+/// Converts an error of the reader: a failed allocation becomes `Memory`, any other error `Read`.
 fn fault_of(cause: io::Error) -> ReadError
     ensures { IsStop result }
 {
@@ -46,7 +47,7 @@ fn fault_of(cause: io::Error) -> ReadError
     }
 }
 
-/// Reads the next line into `line`. Returns whether there was one.
+/// Reads the next line into `line`, without its line feed. Returns `false` if the input has ended.
 fn next_line<B: BufRead>(reader: &mut B, line: &mut Vec<u8>) -> Result<bool, ReadError>
     ensures told { IfOk result
         (λ found. (rest : List ℕ) → B.remaining reader.old ≡ Some rest
@@ -59,7 +60,8 @@ fn next_line<B: BufRead>(reader: &mut B, line: &mut Vec<u8>) -> Result<bool, Rea
     }
 }
 
-/// Returns the error for a line that is no document. `number` is the number of the line, from 1 on.
+/// Returns the error about line `number`, which is not a document because of `fault`. The result is
+/// `Memory` if the column of the fault can't be found for lack of memory.
 fn fault_in(
     alloc: Global,
     line: &[u8],
@@ -79,8 +81,9 @@ fn fault_in(
     }
 }
 
-/// Keeps the document of a line, which is read unless the line is known. Passes over a line that is
-/// no document, or one of another part. `number` is the number of the line, from 1 on.
+/// Appends the row of a line to `rows`. A known line is not parsed again: its row is copied. A line
+/// that is not a document is skipped if `reading` allows it, and a document of another part is left
+/// out. `number` is the number of the line.
 fn keep_line(
     alloc: Global,
     rows: &mut Rows,
@@ -116,7 +119,8 @@ fn keep_line(
     }
 }
 
-/// Appends the rows of all lines to no rows. `line`, `guesses` and `rooms` are used on the way.
+/// Reads all lines, and appends their rows to `rows`, which must be empty. `line`, `guesses` and
+/// `rooms` are memory that is reused.
 fn read_lines<R: Read + Drop>(
     alloc: Global,
     reader: &mut BufReader<R>,
@@ -160,7 +164,7 @@ fn read_lines<R: Read + Drop>(
     Err(ReadError::Memory)
 }
 
-/// Reads the rows of all lines.
+/// Reads all lines, and returns their rows.
 fn read_rows<R: Read + Drop>(
     alloc: Global,
     mut reader: BufReader<R>,
@@ -194,7 +198,8 @@ fn read_rows<R: Read + Drop>(
     }
 }
 
-/// Returns the table of rows that have a cell for each key and one for the line.
+/// Returns the documents of the rows, as a table with a column for each key and one for the line.
+/// The only error is `Memory`.
 fn table_of(alloc: Global, rows: Rows, keys: &[Path]) -> Result<Documents, ReadError>
     requires { (reading : Reading) × (lines : List (List ℕ))
         × HoldsRows reading (paths_view keys.now) lines rows }
@@ -219,10 +224,10 @@ fn table_of(alloc: Global, rows: Rows, keys: &[Path]) -> Result<Documents, ReadE
     }
 }
 
-/// The number of bytes that are read at once.
+/// The size of the read buffer in bytes.
 const BUFFER: usize = 1 << 18;
 
-/// Returns a reader with a buffer. Nothing is read yet.
+/// Wraps a reader in a buffered reader. Nothing is read yet.
 fn buffered<R: Read + Drop>(alloc: Global, reader: R) -> Result<BufReader<R>, ReadError>
     ensures { MatchResult result (λ b. reader_remaining R.remaining b ≡ R.remaining reader) IsStop }
 {
@@ -232,7 +237,7 @@ fn buffered<R: Read + Drop>(alloc: Global, reader: R) -> Result<BufReader<R>, Re
     }
 }
 
-/// Reads the documents of an input. Lines that are known are not parsed again.
+/// Reads the documents of an input. A known line is not parsed again: its row is copied.
 fn read_unknown<R: Read + Drop>(
     alloc: Global,
     reader: R,
@@ -256,14 +261,14 @@ fn read_unknown<R: Read + Drop>(
     Ok(documents)
 }
 
-/// Reads the documents of an input.
+/// Reads the documents of an input with a document on each line.
 ///
-/// A document has a part at each key, or null if there is none and `reading` allows it. A line that
-/// is no such document is passed over if `reading` says so. If `reading` names a part, only its
-/// documents are kept.
+/// A document must have a value at each key, unless `reading` allows null keys. Lines that are not
+/// documents are skipped if `reading` allows it. If `reading` has a part, only its documents are
+/// read.
 ///
-/// Fails with `Line` only if a line is no document and is not passed over, with `Read` if the
-/// reader fails, and otherwise with `Memory`.
+/// Fails with `Line` if a line is not a document and lines may not be skipped, with `Read` if the
+/// reader fails, and with `Memory` if an allocation fails.
 pub fn read_documents<R: Read + Drop>(
     alloc: Global,
     reader: R,
@@ -284,8 +289,8 @@ pub fn read_documents<R: Read + Drop>(
     Ok(documents)
 }
 
-/// Reads documents as `read_documents` does, but does not parse a line again that a row of `table`
-/// was read from. `table` has documents with parts at the same keys.
+/// Reads documents as `read_documents` does. A line that equals the line of a row of `table` is not
+/// parsed again. `table` must have been read with the same keys and options.
 pub fn read_documents_beside<R: Read + Drop>(
     alloc: Global,
     reader: R,

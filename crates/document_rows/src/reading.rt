@@ -1,14 +1,16 @@
-//! Options of reading documents.
+//! The options for reading documents.
 
 use diff_parts::part::Part;
 
-/// Options of reading the documents of an input.
+/// The options for reading the documents of an input.
 #[derive(Clone, Copy)]
 pub struct Reading {
-    /// `true` if a document that has no part at a key has the key null. Otherwise it is an error.
+    /// `true` if a missing key counts as null: a document without a value at a key is read.
+    /// `false`: such a line is an error.
     pub null_keys: bool,
-    /// `true` if a line that is no document is passed over. Otherwise it is an error.
+    /// `true` if lines that are not documents are skipped. `false`: such a line is an error.
     pub skip_bad: bool,
-    /// The part of the documents that is kept, found by their keys. Without a part all are kept.
+    /// The part of the documents to read. The values at the keys decide which part a document is
+    /// in. `None`: all documents are read.
     pub part: Option<Part>,
 }

@@ -1,4 +1,4 @@
-//! The values of lines, and the faults that a line may have.
+//! Parses a line as a document, and finds its fault if it is none.
 
 ghost use Rattle.std.specs.Prelude.{◌≡◌, List, None, Some, IfErr, IfOk, IfSome, MatchResult};
 ghost use Rattle.std.specs.Str.{IsUtf8};
@@ -21,12 +21,12 @@ use json_decimals::error::NumberError;
 use json_paths::path::Path;
 use std::alloc::{AllocError, AllocFailed, Global};
 
-/// The reason why a line is not kept.
+/// An error of reading a line as a document.
 #[derive(Drop)]
 pub(crate) enum Trouble {
     /// An allocation failed.
     Memory,
-    /// The line is no document.
+    /// The line is not a document, because of this fault.
     Fault(LineFault),
 }
 
@@ -46,7 +46,8 @@ impl<T: Drop> From<AllocFailed<T>> for Trouble {
     }
 }
 
-/// Reads the value of a line.
+/// Parses a line as a JSON value. Fails with the fault `Invalid` if the line is not JSON, and with
+/// `RepeatedName` if an object has two members with the same name.
 fn parsed<'a>(alloc: Global, line: &'a [u8], scratch: &'a mut Scratch) -> Result<Value<'a>, Trouble>
     ensures { MatchResult result
         (λ v. IsUtf8 line.now × (document line.now ≡ Some (value_view v))
@@ -66,8 +67,8 @@ fn parsed<'a>(alloc: Global, line: &'a [u8], scratch: &'a mut Scratch) -> Result
     }
 }
 
-/// Reads the object of a line, and checks that its numbers are narrow. `room` is used for the
-/// numbers.
+/// Parses a line as a JSON object, and checks that the exponents of all numbers have at most 30
+/// digits. `room` is memory that may be overwritten.
 pub(crate) fn object_of<'a>(
     alloc: Global,
     line: &'a [u8],
@@ -93,7 +94,8 @@ pub(crate) fn object_of<'a>(
     }
 }
 
-/// Returns the place of the first key that leads nowhere in a value.
+/// Returns the index of the first key at which `value` has no value, or `None` if it has a value at
+/// each key.
 fn missing_key(value: &Value<'_>, keys: &[Path]) -> Option<usize>
     ensures parts { result ≡ None → HasParts (paths_view keys.now) (value_view value.now) }
     ensures missing { IfSome result (LacksPart (paths_view keys.now) (value_view value.now)) }
@@ -106,7 +108,8 @@ fn missing_key(value: &Value<'_>, keys: &[Path]) -> Option<usize>
     None
 }
 
-/// Checks that a value has a part at each key, unless a key may be null.
+/// Checks that `value` has a value at each key, and fails with `NoPart` if not. Does not check if
+/// `reading` allows null keys.
 fn check_keys(value: &Value<'_>, keys: &[Path], reading: Reading) -> Result<(), LineFault>
     ensures { MatchResult result
         (λ _. HasKeys reading (paths_view keys.now) (value_view value.now))
@@ -121,7 +124,8 @@ fn check_keys(value: &Value<'_>, keys: &[Path], reading: Reading) -> Result<(), 
     }
 }
 
-/// Reads the object of a line that is a document. `room` is used for its numbers.
+/// Parses a line as a document, and fails with its fault if it is none. `room` is memory that may
+/// be overwritten.
 pub(crate) fn document_in<'a>(
     alloc: Global,
     line: &'a [u8],

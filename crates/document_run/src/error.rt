@@ -1,4 +1,4 @@
-//! Errors of comparing two inputs of documents.
+//! The errors of comparing two inputs of documents.
 
 ghost use Rattle.document_run.specs.Faults.{IsMemory};
 
@@ -8,8 +8,7 @@ use std::alloc::AllocError;
 use std::io;
 use thiserror::Error;
 
-/// The reason why two inputs of documents are not compared. Nothing was written, unless the reason
-/// is `Write`.
+/// An error of comparing two inputs of documents. Except for `Write`, nothing was written.
 #[derive(Debug, Drop, Error)]
 pub enum DocumentError {
     /// An allocation failed.
@@ -18,14 +17,15 @@ pub enum DocumentError {
     /// An input has more than 2^32 documents.
     #[error("a file has more than 4,294,967,296 documents")]
     TooManyRows,
-    /// An input can't be read, or a line of it is no document.
+    /// The input on this side can't be read, or has a line that is not a document.
     #[error("{cause}")]
     Read { side: Side, cause: ReadError },
-    /// An input has lines, but none of them is a document, and bad lines are to be skipped.
+    /// The input on this side has lines, but all of them were skipped because they are not
+    /// documents.
     #[error("no line is a document")]
     AllSkipped { side: Side },
-    /// Two documents of an input have the same key, where keys have to be unique. `first` and
-    /// `again` are the numbers of their lines, from 1 on.
+    /// Two documents of an input have the same key, but keys must be unique. `first` and `again`
+    /// are the numbers of their lines, from 1 on.
     #[error("the documents at lines {first} and {again} have the same key")]
     KeyTwice { side: Side, first: u64, again: u64 },
     /// A write failed. The beginning of the report may have been written.

@@ -1,4 +1,4 @@
-//! The differences between two sides.
+//! Matches and compares the documents of two inputs.
 
 ghost use Rattle.std.specs.Prelude.{◌≡◌, true, MatchResult};
 ghost use Rattle.diff_tables.specs.Comparison.{IsComparison};
@@ -17,15 +17,16 @@ use document_rows::parts::key_columns;
 use document_words::sides::DocumentSides;
 use std::alloc::{AllocError, Global};
 
-/// The documents of two sides that have partners, and those that have none.
+/// The result of comparing two inputs: the matched documents, and those without a partner.
 #[derive(Drop)]
 pub(crate) struct Found {
     pub(crate) matching: Matching,
-    /// The places among the partners where a difference between the two documents is reported.
+    /// The indices of the matched pairs whose documents have a difference to report.
     pub(crate) changed: Vec<usize>,
 }
 
-/// Matches the documents of two sides by their keys.
+/// Matches the documents of two inputs by their keys, and checks that keys are unique if the
+/// options require it.
 fn compared(
     alloc: Global,
     sides: &DocumentSides<'_>,
@@ -47,7 +48,8 @@ fn compared(
     }
 }
 
-/// Finds the documents of two sides that differ, or that only one side has.
+/// Finds the matched documents that have a difference to report, and the documents without a
+/// partner.
 pub(crate) fn found_on(
     alloc: Global,
     sides: &DocumentSides<'_>,

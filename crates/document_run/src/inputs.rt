@@ -1,4 +1,4 @@
-//! Inputs, and the documents that they have.
+//! Reads the documents of two inputs.
 
 ghost use Rattle.std.specs.Prelude.{◌≡◌, ℕ, List, Some, IfOk, MatchResult};
 ghost use Rattle.diff_run.specs.Faults.{text_on};
@@ -15,14 +15,14 @@ use document_rows::read::{Documents, read_documents, read_documents_beside};
 use std::alloc::Global;
 use std::io::Read;
 
-/// The documents of an input, and the numbers of the lines that are passed over.
+/// The documents of an input, and the numbers of the lines that were skipped.
 #[derive(Drop)]
 pub(crate) struct ReadSide {
     pub(crate) table: Table,
     pub(crate) skipped: Vec<u64>,
 }
 
-/// Reads the documents of the input on a side.
+/// Reads the documents of an input. `side` is the side of the input, for errors.
 pub(crate) fn read_side<R: Read + Drop>(
     alloc: Global,
     input: Input<'_, R>,
@@ -58,7 +58,8 @@ pub(crate) fn read_side<R: Read + Drop>(
     }
 }
 
-/// Reads the documents of the right input. Lines that the left input has too are not parsed again.
+/// Reads the documents of the right input. A line that equals a line of the left input is not
+/// parsed again.
 pub(crate) fn read_right<R: Read + Drop>(
     alloc: Global,
     input: Input<'_, R>,

@@ -1,16 +1,16 @@
-//! Laws of reports of documents.
+//! Laws of reports of documents. The functions do nothing; their contracts are the laws.
 
 ghost use Rattle.document_run.specs.Laws.{ChangedAreNotSame, KeepsDocuments};
 
-/// Says that with no rules, the partners that are changed are those whose documents are not the
-/// same.
+/// Law: without rules, the changed pairs of a report are exactly the matched pairs whose documents
+/// are not equal.
 pub fn report_laws()
     ensures { ChangedAreNotSame }
 {}
 
-/// Says that the documents of a part are those of the whole whose rows are in the part. So a result
-/// that holds for the parts of tables holds for the parts of documents: together they make the
-/// whole.
+/// Law: reading one part of a text gives exactly the rows of the whole text that are in this part,
+/// in the same order and with the same line numbers. So laws about the parts of tables hold for the
+/// parts of documents.
 pub fn part_laws()
     ensures { KeepsDocuments }
 {}

@@ -1,4 +1,4 @@
-//! Compares two inputs of JSON documents by key, and writes the differences.
+//! Compares two inputs of JSON documents by key, and writes a report of their differences.
 #![tactic(auto)]
 
 pub mod error;

@@ -1,4 +1,4 @@
-//! Options of comparing documents, and of the report.
+//! The options of comparing documents and of the report.
 
 ghost use Rattle.std.specs.Prelude.{◌≡◌, length};
 
@@ -7,26 +7,25 @@ use document_rows::reading::Reading;
 use json_changes::changes::Rules;
 use json_paths::path::Path;
 
-/// Options of a comparison of documents, and of its report.
+/// The options of a comparison of documents and of its report.
 #[derive(Clone, Copy)]
 pub struct DocumentOptions<'a> {
-    /// The paths to the parts that name a document. If there are none, documents are compared by
-    /// position.
+    /// The paths to the values that form the key of a document. Without paths, the documents are
+    /// matched by their order: the first with the first, and so on.
     pub keys: &'a [Path],
-    /// The name of each of these paths in the report.
+    /// The name of each key in the report. There are as many names as keys.
     pub names: &'a [&'a [u8]],
-    /// The options of reading the documents.
+    /// The options for reading the documents.
     pub reading: Reading,
-    /// The rules that say which differences between two documents are reported.
+    /// The rules that decide which differences are reported.
     pub rules: &'a Rules,
-    /// The greatest number of differences that have a line of their own. With 0 the report is only
-    /// the counts.
+    /// The most differences that get a line of their own. With 0 the report has only the counts.
     pub limit: usize,
-    /// `true` if a key that comes twice in an input is an error.
+    /// `true` if two documents of an input with the same key are an error.
     pub unique: bool,
-    /// The form of the report.
+    /// The form of the report, text or JSON.
     pub format: Format,
-    /// `true` if a report in text has colours for a terminal.
+    /// `true` if a text report has colours for a terminal.
     pub colored: bool,
     ghost named: { length names.now ≡ length keys.now },
 }

@@ -1,4 +1,4 @@
-//! The report of two sides.
+//! Makes the report of two inputs of documents.
 
 ghost use Rattle.std.specs.Prelude.{◌≡◌, IfOk, MatchResult};
 ghost use Rattle.document_report.specs.Forms.{format_text};
@@ -13,14 +13,14 @@ use document_report::report::push_document_report;
 use document_words::sides::DocumentSides;
 use std::alloc::{AllocError, Global};
 
-/// The report of two sides, and its outcome.
+/// The report of two inputs, and the outcome of their comparison.
 #[derive(Drop)]
 pub(crate) struct Report {
     pub(crate) text: Vec<u8>,
     pub(crate) outcome: Outcome,
 }
 
-/// Returns the text of a report.
+/// Returns the text of the report.
 fn text_of(
     alloc: Global,
     sides: &DocumentSides<'_>,
@@ -41,7 +41,7 @@ fn text_of(
     Ok(text)
 }
 
-/// Returns the report of two sides.
+/// Compares the documents of two inputs, and returns the report and the outcome.
 pub(crate) fn report_of(
     alloc: Global,
     sides: &DocumentSides<'_>,

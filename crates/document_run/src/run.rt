@@ -1,4 +1,4 @@
-//! The whole comparison of documents, from two readers to a writer.
+//! Compares two inputs of documents, from two readers to a writer.
 
 ghost use Rattle.std.specs.Prelude.{◌≡◌, ◌⊎◌, ℕ, List, Some, IfErr, IfOk, MatchResult};
 ghost use Rattle.std.specs.Io.KnownBytes.{Appends};
@@ -14,7 +14,7 @@ use diff_run::run::Input;
 use std::alloc::Global;
 use std::io::{Read, Write};
 
-/// Returns the report of two inputs.
+/// Reads and compares two inputs, and returns the report and the outcome.
 fn report_on<L: Read + Drop, R: Read + Drop>(
     alloc: Global,
     left: Input<'_, L>,
@@ -35,9 +35,8 @@ fn report_on<L: Read + Drop, R: Read + Drop>(
     Ok(report)
 }
 
-/// Compares two inputs of documents, and writes the report. Nothing is written if an input can't be
-/// read, a line is no document and is not passed over, an input has too many documents, or an
-/// allocation fails.
+/// Compares two inputs of documents, and writes the report to `out`. If the error is not `Write`,
+/// nothing was written: the inputs are read completely and the report is made in memory first.
 pub fn run_documents<L: Read + Drop, R: Read + Drop, W: Write>(
     alloc: Global,
     left: Input<'_, L>,

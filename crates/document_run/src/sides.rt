@@ -1,4 +1,4 @@
-//! Two inputs, in the form in which a report takes them.
+//! Reads two inputs for a report.
 
 ghost use Rattle.std.specs.Prelude.{◌≡◌, ℕ, List, Some, map, IfOk, MatchResult};
 ghost use Rattle.diff_columns.specs.Names.{names_of};
@@ -16,7 +16,7 @@ use document_words::sides::DocumentSides;
 use std::alloc::{AllocError, Global};
 use std::io::Read;
 
-/// Copies names.
+/// Returns a copy of each name.
 fn copied(alloc: Global, names: &[&[u8]]) -> Result<Vec<Vec<u8>>, AllocError>
     ensures { IfOk result (λ copies. map (λ v. v.items) copies.items ≡ names_of names.now) }
 {
@@ -27,7 +27,8 @@ fn copied(alloc: Global, names: &[&[u8]]) -> Result<Vec<Vec<u8>>, AllocError>
     Ok(copies)
 }
 
-/// Reads the documents of two inputs.
+/// Reads the documents of two inputs. Fails with `AllSkipped` if an input has lines, but all of
+/// them were skipped.
 pub(crate) fn sides_of<'a, L: Read + Drop, R: Read + Drop>(
     alloc: Global,
     left: Input<'_, L>,

@@ -1,4 +1,4 @@
-//! Inputs with every line skipped.
+//! Checks that not all lines of an input were skipped.
 
 ghost use Rattle.std.specs.Prelude.{◌≡◌, false, None, MatchResult};
 ghost use Rattle.document_run.specs.Skipped.{IsSkippedFault, none_kept};
@@ -8,15 +8,15 @@ use crate::inputs::ReadSide;
 use crate::options::DocumentOptions;
 use diff_columns::error::Side;
 
-/// Returns whether an input has no rows, and lines that are skipped.
+/// Returns whether an input has lines, but all of them were skipped.
 fn none_kept(read: &ReadSide) -> bool
     ensures { result ≡ none_kept read.now.table.lines.items read.now.skipped.items }
 {
     read.table.lines.is_empty() && !read.skipped.is_empty()
 }
 
-/// Tests that not every line of the input on a side is skipped. Of a part nothing is tested, since
-/// it may have none of the documents.
+/// Checks that not all lines of an input were skipped, and fails with `AllSkipped` if they were.
+/// Does not check if only a part is read, since a part may have no documents.
 pub(crate) fn test_kept(
     read: &ReadSide,
     options: &DocumentOptions<'_>,

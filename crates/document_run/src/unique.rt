@@ -1,4 +1,4 @@
-//! Keys that have to be unique.
+//! Checks that keys are unique.
 
 ghost use Rattle.std.specs.Prelude.{◌≡◌, true, MatchResult};
 ghost use Rattle.diff_keys.specs.Unique.{AllDiffer};
@@ -16,7 +16,8 @@ use diff_tables::compare::key_twice;
 use document_words::sides::DocumentSides;
 use std::alloc::Global;
 
-/// Tests that no two documents of a table have the same key.
+/// Checks that no two documents of a table have the same key, and fails with `KeyTwice` if two
+/// have.
 fn test_side(
     alloc: Global,
     table: &Table,
@@ -39,7 +40,7 @@ fn test_side(
     }
 }
 
-/// Tests that no two documents of a side have the same key, if keys have to be unique.
+/// Checks on both sides that no two documents have the same key, if the option `unique` is set.
 pub(crate) fn test_keys(
     alloc: Global,
     sides: &DocumentSides<'_>,

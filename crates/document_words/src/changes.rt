@@ -1,4 +1,4 @@
-//! The differences between two documents.
+//! Writes the differences between two documents.
 
 ghost use Rattle.std.specs.Option.{option_map};
 ghost use Rattle.std.specs.Prelude.{◌≡◌, ◌++◌, OnOk};
@@ -10,7 +10,7 @@ use diff_words::colors::{Color, push_color};
 use json_plain::plain::push_plain_json;
 use std::alloc::AllocError;
 
-/// Appends a part, or the word `missing` if there is none.
+/// Appends a value as JSON without control characters. Appends `missing` for `None`.
 #[tactic(auto, unfolding(crate::specs::Changes::part_text))]
 fn push_part(out: &mut Vec<u8>, part: &Option<Vec<u8>>) -> Result<(), AllocError>
     ensures { OnOk result
@@ -23,7 +23,7 @@ fn push_part(out: &mut Vec<u8>, part: &Option<Vec<u8>>) -> Result<(), AllocError
     Ok(())
 }
 
-/// Appends a part, in a colour if there are colours.
+/// Appends a value (`push_part`). If `colored`, it is in `color`, and the plain colour follows.
 #[tactic(auto, unfolding(diff_words::specs::Colors::painted))]
 fn push_painted_part(
     out: &mut Vec<u8>,
@@ -41,7 +41,8 @@ fn push_painted_part(
     Ok(())
 }
 
-/// Appends the path of a part that differs, and the part on each side.
+/// Appends a difference as text: `PATH LEFT -> RIGHT`. A value that is `None` is written as
+/// `missing`.
 #[tactic(auto, unfolding(crate::specs::Changes::change_text))]
 pub fn push_change(
     out: &mut Vec<u8>,
@@ -63,7 +64,7 @@ pub fn push_change(
     Ok(())
 }
 
-/// Appends a part as a further member of an object, or nothing if there is no part.
+/// Appends a comma and the member `"NAME":VALUE`. Appends nothing if the value is `None`.
 #[tactic(auto, unfolding(crate::specs::Changes::part_member))]
 fn push_part_member(
     out: &mut Vec<u8>,
@@ -83,7 +84,8 @@ fn push_part_member(
     Ok(())
 }
 
-/// Appends the path of a part that differs and the part on each side, in JSON.
+/// Appends a difference as a JSON object with the members `path`, `left` and `right`. A value that
+/// is `None` has no member.
 #[tactic(auto, unfolding(crate::specs::Changes::change_object))]
 pub fn push_change_object(
     out: &mut Vec<u8>,

@@ -1,4 +1,4 @@
-//! The counts of the documents that differ.
+//! Writes the numbers of documents that differ.
 
 ghost use Rattle.std.specs.Fmt.{decimal};
 ghost use Rattle.std.specs.Prelude.{◌≡◌, ◌≤◌, ◌++◌, length, OnOk};
@@ -12,7 +12,7 @@ use diff_report::summary::difference_count;
 use diff_words::decimals::push_decimal;
 use std::alloc::AllocError;
 
-/// Appends a number, and the words for the things that it counts.
+/// Appends a number and the text `what` after it.
 fn push_count(out: &mut Vec<u8>, count: usize, what: &[u8]) -> Result<(), AllocError>
     ensures { OnOk result (out.new.items ≡ out.old.items ++ decimal count ++ what.now) }
 {
@@ -21,7 +21,7 @@ fn push_count(out: &mut Vec<u8>, count: usize, what: &[u8]) -> Result<(), AllocE
     Ok(())
 }
 
-/// Appends the numbers of documents that are changed, removed, added, and the same.
+/// Appends the numbers of changed, removed, added and equal documents, and a line feed.
 #[tactic(auto, unfolding(crate::specs::Counts::totals_text))]
 fn push_totals(
     out: &mut Vec<u8>,
@@ -40,7 +40,8 @@ fn push_totals(
     Ok(())
 }
 
-/// Appends the last line, where `changed` of the matched documents are changed.
+/// Appends the summary at the end of a text report. `changed` is the number of matched pairs that
+/// differ.
 pub fn push_summary(
     out: &mut Vec<u8>,
     matching: &Matching,
@@ -60,7 +61,8 @@ pub fn push_summary(
     Ok(())
 }
 
-/// Appends the line with the counts in JSON, where `changed` of the matched documents are changed.
+/// Appends the JSON line with the counts. `changed` is the number of matched pairs that differ.
+/// `limit` is the most differences with a line of their own; the rest are counted as `not_shown`.
 #[tactic(auto, unfolding(crate::specs::Counts::counts_json, crate::specs::Counts::counts_object))]
 pub fn push_counts(
     out: &mut Vec<u8>,

@@ -1,4 +1,4 @@
-//! The names of documents.
+//! Writes the keys of documents.
 
 ghost use Rattle.std.specs.List.{range_with_len};
 ghost use Rattle.std.specs.Prelude.{◌≡◌, ◌<◌, ◌++◌, length, map, codes, OnOk};
@@ -16,7 +16,7 @@ use diff_words::lists::push_gap;
 use diff_words::words::push_word;
 use std::alloc::AllocError;
 
-/// Appends the name of key `k`, and its value in a row.
+/// Appends `NAME=VALUE` for key `k` of row `i`.
 fn push_key(
     out: &mut Vec<u8>,
     sides: &DocumentSides<'_>,
@@ -36,7 +36,7 @@ fn push_key(
     Ok(())
 }
 
-/// Appends the names of the keys, and their values in a row.
+/// Appends `NAME=VALUE` for each key of row `i`, with commas between them.
 fn push_keys(
     out: &mut Vec<u8>,
     sides: &DocumentSides<'_>,
@@ -58,7 +58,8 @@ fn push_keys(
     Ok(())
 }
 
-/// Appends the name of a document: its keys, or its number if there are no keys.
+/// Appends the key of a document: `NAME=VALUE` for each key. If there are no keys, appends `row N`,
+/// where the first row is 1.
 #[tactic(auto, unfolding(crate::specs::Keys::document_name))]
 pub fn push_document_name(
     out: &mut Vec<u8>,
@@ -81,7 +82,7 @@ pub fn push_document_name(
     Ok(())
 }
 
-/// Appends the name of key `k` and its value in a row, in JSON.
+/// Appends the member `"NAME":VALUE` for key `k` of row `i`.
 fn push_key_member(
     out: &mut Vec<u8>,
     sides: &DocumentSides<'_>,
@@ -101,7 +102,7 @@ fn push_key_member(
     Ok(())
 }
 
-/// Appends the names of the keys and their values in a row, in JSON.
+/// Appends the member `"NAME":VALUE` for each key of row `i`, with commas between the members.
 pub fn push_key_members(
     out: &mut Vec<u8>,
     sides: &DocumentSides<'_>,

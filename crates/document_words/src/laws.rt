@@ -1,9 +1,9 @@
-//! Laws of the numbers of keys. The function does nothing; its contract is the laws.
+//! Laws of numbers in keys. The function does nothing; its contract has the laws.
 
 ghost use Rattle.document_words.specs.Laws.{KeyTextReadsBack, KeyTextsTell};
 
-/// Says that the printed text of a number writes this number, so that two numbers that are keys
-/// have one text if and only if they are equal.
+/// States two laws. The text that a report has for a number in a key is a number of the same value.
+/// Two numbers have the same text in a report if and only if they have the same value.
 pub fn key_laws()
     ensures reads_back { KeyTextReadsBack }
     ensures tell { KeyTextsTell }

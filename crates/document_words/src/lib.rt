@@ -1,6 +1,6 @@
-//! Texts for a comparison of JSON documents: of their keys, of the parts that differ, of documents
-//! that only one file has, of the counts, and of lines that are passed over. Except for colours and
-//! line feeds, none contains a control character of a terminal.
+//! Writes the small parts of a report of JSON documents: keys, differences, lines of documents in
+//! one file alone, counts, and numbers of skipped lines. They contain no control characters, except
+//! for colours and line feeds.
 #![tactic(auto)]
 
 pub mod changes;

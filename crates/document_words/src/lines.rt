@@ -1,4 +1,4 @@
-//! The lines of documents that only one file has.
+//! Writes the lines of removed and added documents.
 
 ghost use Rattle.std.specs.List.{flat_map};
 ghost use Rattle.std.specs.Prelude.{◌≡◌, ◌<◌, ◌++◌, All, length, slice_index, take, OnOk};
@@ -17,7 +17,8 @@ use diff_words::formats::Format;
 use diff_words::words::push_word;
 use std::alloc::AllocError;
 
-/// Appends a document that only one file has, without the line feed.
+/// Appends the text line of a document without a partner, without colours and line feed: the mark,
+/// the key, the name of the file and the line number.
 #[tactic(auto, unfolding(crate::specs::Lines::alone_text))]
 fn push_alone(
     out: &mut Vec<u8>,
@@ -43,7 +44,8 @@ fn push_alone(
     Ok(())
 }
 
-/// Appends the line of a document that only one file has.
+/// Appends the text line of a document without a partner. `mark` is `-` for a removed and `+` for
+/// an added document.
 #[tactic(auto, unfolding(crate::specs::Lines::alone_line, diff_words::specs::Colors::painted))]
 fn push_alone_line(
     out: &mut Vec<u8>,
@@ -63,7 +65,8 @@ fn push_alone_line(
     Ok(())
 }
 
-/// Appends the line of a document that only one file has, in JSON.
+/// Appends the JSON line of a document without a partner: the key and the line number. `kind` is
+/// `removed` or `added`.
 #[tactic(auto, unfolding(crate::specs::Lines::alone_json, crate::specs::Lines::alone_object))]
 fn push_alone_object(
     out: &mut Vec<u8>,
@@ -87,7 +90,7 @@ fn push_alone_object(
     Ok(())
 }
 
-/// Appends the line of a document that has no partner, in a form.
+/// Appends the line of a document without a partner, as text or JSON.
 fn push_document_alone(
     out: &mut Vec<u8>,
     format: Format,
@@ -109,7 +112,8 @@ fn push_document_alone(
     }
 }
 
-/// Appends the lines of the first `limit` of these documents, which have no partner.
+/// Appends the lines of the first `limit` of `rows`, which are documents of `side` without a
+/// partner.
 pub fn push_documents_alone(
     out: &mut Vec<u8>,
     format: Format,

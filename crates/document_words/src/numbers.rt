@@ -1,4 +1,4 @@
-//! The values of keys, with numbers as a person writes them.
+//! Writes the values of keys, with numbers in the usual notation instead of their normal texts.
 
 ghost use Rattle.std.specs.Fmt.{sign_text};
 ghost use Rattle.std.specs.Prelude.{◌≡◌, ◌++◌, false, replicate, true, MatchOption, OnOk};
@@ -11,18 +11,20 @@ use json_decimals::tens::tens_of;
 use json_plain::plain::push_plain_json;
 use std::alloc::AllocError;
 
-/// The most tens that are printed as zeros or as places after a point.
+/// The most zeros at the end of a number, or digits after its point, that are written instead of an
+/// exponent.
 const MOST_TENS: u128 = 20;
 
-/// The tens of a number that is printed without an exponent: those that its digits are multiplied
-/// by, and those that divide them.
+/// The power of ten of a number that is written without an exponent: its digits are multiplied by
+/// 10^`up` and divided by 10^`down`.
 #[derive(Clone, Copy, Drop)]
 struct ShortTens {
     up: usize,
     down: usize,
 }
 
-/// Returns the tens of a numeral that is printed without an exponent.
+/// Returns the power of ten of a numeral that is written without an exponent. Returns `None` if the
+/// numeral has a fraction, no digits, or a power of ten above 20 or below -20.
 fn short_tens(numeral: &Numeral<'_>) -> Option<ShortTens>
     ensures { MatchOption result (is_short numeral.now ≡ false)
         (λ t. (is_short numeral.now ≡ true) × (t.up ≡ tens_up numeral.now)
@@ -46,7 +48,7 @@ fn short_tens(numeral: &Numeral<'_>) -> Option<ShortTens>
     })
 }
 
-/// Appends a minus where a number is negative.
+/// Appends `-` if `negative` is true.
 fn push_sign(out: &mut Vec<u8>, negative: bool) -> Result<(), AllocError>
     ensures { OnOk result (out.new.items ≡ out.old.items ++ sign_text negative) }
 {
@@ -56,7 +58,7 @@ fn push_sign(out: &mut Vec<u8>, negative: bool) -> Result<(), AllocError>
     Ok(())
 }
 
-/// Appends zeros.
+/// Appends `n` zeros.
 fn push_zeros(out: &mut Vec<u8>, n: usize) -> Result<(), AllocError>
     ensures { OnOk result (out.new.items ≡ out.old.items ++ replicate n 48) }
 {
@@ -66,7 +68,8 @@ fn push_zeros(out: &mut Vec<u8>, n: usize) -> Result<(), AllocError>
     Ok(())
 }
 
-/// Appends digits with a point, after which `down` of them stand.
+/// Appends `digits` with a decimal point before the last `down` of them. Zeros are added if there
+/// are too few digits.
 #[tactic(auto, unfolding(crate::specs::Numbers::with_point))]
 fn push_with_point(out: &mut Vec<u8>, digits: &[u8], down: usize) -> Result<(), AllocError>
     ensures { OnOk result (out.new.items ≡ out.old.items ++ with_point digits.now down) }
@@ -84,7 +87,7 @@ fn push_with_point(out: &mut Vec<u8>, digits: &[u8], down: usize) -> Result<(), 
     Ok(())
 }
 
-/// Appends digits with their tens, and without an exponent.
+/// Appends `digits` times the power of ten, without an exponent.
 #[tactic(auto, unfolding(crate::specs::Numbers::plain_digits))]
 fn push_plain_digits(out: &mut Vec<u8>, digits: &[u8], tens: ShortTens) -> Result<(), AllocError>
     ensures { OnOk result
@@ -99,8 +102,8 @@ fn push_plain_digits(out: &mut Vec<u8>, digits: &[u8], tens: ShortTens) -> Resul
     Ok(())
 }
 
-/// Appends the value of a key, which is given by its normal text. A number has no exponent, unless
-/// that of its normal text is above 20 or below -20.
+/// Appends the value of a key. `text` is its normal text. A number is written without an exponent,
+/// unless that of its normal text is above 20 or below -20.
 #[tactic(auto, unfolding(crate::specs::Numbers::value_text))]
 pub fn push_value(out: &mut Vec<u8>, text: &[u8]) -> Result<(), AllocError>
     ensures { OnOk result (out.new.items ≡ out.old.items ++ value_text text.now) }
