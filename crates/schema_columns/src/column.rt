@@ -1,4 +1,5 @@
-//! The schema of a column: the kind of its values, counts of its cells, and its extremes.
+//! Summarizes a column of a table: the kind of its values, the counts of its cells, and the least
+//! and greatest value.
 
 ghost use Rattle.std.specs.List.{All};
 ghost use Rattle.std.specs.Option.{option_copied};
@@ -24,12 +25,13 @@ use schema_values::numbers::{Values, number_values};
 use schema_values::part::SchemaPart;
 use std::alloc::Global;
 
-/// A summary of the cells of a column. A cell that is the word for no value is null, and any other
-/// empty cell is missing. The remaining cells are the values.
+/// The schema of a column: a summary of its cells. A cell is null if it equals the text for no
+/// value, and missing if it is empty and not null. All other cells are values.
 #[derive(Drop)]
 pub struct ColumnSchema {
+    /// The name of the column.
     pub name: Vec<u8>,
-    /// The narrowest kind that all values are of.
+    /// The narrowest kind that fits all values.
     pub kind: Kind,
     /// The number of cells.
     pub rows: usize,
@@ -37,13 +39,14 @@ pub struct ColumnSchema {
     pub nulls: usize,
     /// The number of missing cells.
     pub missing: usize,
-    /// The number of different values. Numbers are compared exactly, and other values as bytes.
-    /// `None` if the values are numbers and one has an exponent of more than 30 digits.
+    /// The number of different values. Numbers are compared as exact decimals, other values as
+    /// bytes. `None` if the values are numbers and one has an exponent of more than 30 digits.
     pub distinct: Option<usize>,
-    /// The least value: by number if all values are numbers, and otherwise by bytes. `None` if
-    /// there is no value, or if `distinct` is `None`.
+    /// The least value: by value if all values are numbers, and else by bytes. `None` if there are
+    /// no values, or if `distinct` is `None`.
     pub least: Option<Vec<u8>>,
-    /// The greatest value, by the same order. `None` in the same cases.
+    /// The greatest value, in the order described at `least`. `None` if there are no values, or if
+    /// `distinct` is `None`.
     pub greatest: Option<Vec<u8>>,
 }
 
@@ -63,7 +66,8 @@ impl SchemaPart for ColumnSchema {
     }
 }
 
-/// Returns the number of different byte strings, and the least and the greatest of them.
+/// Returns the number of different byte strings, and the least and the greatest of them. The only
+/// error is `Memory`.
 fn string_values(alloc: Global, cells: &BinaryArray<i64>) -> Result<Values, ComputeError>
     requires { cells.now.validity ≡ None }
     ensures { MatchResult result
@@ -78,7 +82,8 @@ fn string_values(alloc: Global, cells: &BinaryArray<i64>) -> Result<Values, Comp
     })
 }
 
-/// Returns the number of different whole numbers, and the least and the greatest of them.
+/// Returns the number of different integers in `cells`, and the least and the greatest of them.
+/// Each cell must be an integer. The only error is `Memory`.
 fn whole_values(alloc: Global, cells: &BinaryArray<i64>) -> Result<Values, ComputeError>
     requires { All IsWhole (offset_strings (λ x. x) cells.now) }
     ensures { MatchResult result
@@ -96,7 +101,8 @@ fn whole_values(alloc: Global, cells: &BinaryArray<i64>) -> Result<Values, Compu
     })
 }
 
-/// Returns the number of different cells of a kind, and the least and the greatest of them.
+/// Returns the number of different cells, and the least and the greatest of them. All cells must be
+/// of this kind. The only error is `Memory`.
 fn values_of(alloc: Global, cells: &BinaryArray<i64>, kind: Kind) -> Result<Values, ComputeError>
     requires plain { cells.now.validity ≡ None }
     requires all { AreOf kind (offset_strings (λ x. x) cells.now) }
@@ -112,8 +118,8 @@ fn values_of(alloc: Global, cells: &BinaryArray<i64>, kind: Kind) -> Result<Valu
     }
 }
 
-/// Returns the schema of a column of a table, under this name. A cell that is the word `null` is
-/// null. The only error is `Memory`.
+/// Returns the schema of a column of a table. `name` is the name of the column. A cell that equals
+/// `null` is null; with `None` no cell is null. The only error is `Memory`.
 pub fn schema_of(
     alloc: Global,
     name: &[u8],

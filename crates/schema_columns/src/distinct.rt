@@ -1,4 +1,4 @@
-//! Counts of different numbers.
+//! Counts different integers.
 
 ghost use Rattle.std.specs.Ordering.{int_eq};
 ghost use Rattle.std.specs.Prelude.{◌≡◌, MatchResult};
@@ -13,8 +13,8 @@ use polars_compute_unique::primitive::{PrimitiveRangedUniqueState, range_fits};
 use std::alloc::Global;
 use std::collections::HashMap;
 
-/// Returns how many different numbers there are, by looking each one up in a table of those before
-/// it. The only error is `Memory`.
+/// Returns the number of different integers in `numbers`. Uses a hash table. The only error is
+/// `Memory`.
 fn count_by_lookup(alloc: Global, numbers: &[i64]) -> Result<usize, ComputeError>
     ensures { MatchResult result (λ count. count ≡ distinct_total int_eq numbers.now) IsMemory }
 {
@@ -28,14 +28,16 @@ fn count_by_lookup(alloc: Global, numbers: &[i64]) -> Result<usize, ComputeError
     Ok(count)
 }
 
-/// Returns whether a range has at most 64 numbers for each row, and 1024 more.
+/// Returns whether the range `least..=greatest` is small enough for `count_by_state`: it has at
+/// most 64 numbers for each row, plus 1024.
 fn is_dense(least: i64, greatest: i64, rows: usize) -> bool {
     let most = (rows as i128).saturating_mul(64).saturating_add(1024);
     i128::from(greatest) - i128::from(least) < most
 }
 
-/// Returns how many different numbers there are, by a state of the numbers from `least` to
-/// `greatest`. The only error is `Memory`.
+/// Returns the number of different integers in `numbers`. Uses a flag for each number from `least`
+/// to `greatest`, or a hash table if a number lies outside of this range. The only error is
+/// `Memory`.
 fn count_by_state(
     alloc: Global,
     numbers: Vec<i64>,
@@ -54,8 +56,8 @@ fn count_by_state(
     Ok(state.finalize_n_unique_non_null())
 }
 
-/// Returns how many different numbers there are. `ends` are the least and the greatest of them. The
-/// only error is `Memory`.
+/// Returns the number of different integers in `numbers`. `ends` are the least and the greatest of
+/// them. The only error is `Memory`.
 pub(crate) fn count_numbers(
     alloc: Global,
     numbers: Vec<i64>,

@@ -1,4 +1,4 @@
-//! The least and the greatest of cells, as texts.
+//! Finds the least and the greatest cell, as texts.
 
 ghost use Rattle.std.specs.Option.{option_copied};
 ghost use Rattle.std.specs.Prelude.{◌≡◌, IfOk, None, map, option_map};
@@ -14,14 +14,14 @@ use polars_compare_extremes::borrowed::BytesMinMaxKernel;
 use polars_compare_extremes::kernel::MinMaxKernel;
 use std::alloc::{AllocError, Global};
 
-/// The least and the greatest of some cells, if there are any.
+/// The least and the greatest of some cells, or `None` if there are no cells.
 #[derive(Drop)]
 pub(crate) struct Ends {
     pub(crate) least: Option<Vec<u8>>,
     pub(crate) greatest: Option<Vec<u8>>,
 }
 
-/// Returns a copy of bytes, if there are any.
+/// Returns a copy of `bytes`, or `None` for `None`.
 fn copied(alloc: Global, bytes: Option<&[u8]>) -> Result<Option<Vec<u8>>, AllocError>
     ensures { IfOk result (λ copy. option_map (λ v. v.items) copy ≡ option_copied bytes.entry) }
 {
@@ -34,7 +34,7 @@ fn copied(alloc: Global, bytes: Option<&[u8]>) -> Result<Option<Vec<u8>>, AllocE
     }
 }
 
-/// Returns a number in decimal.
+/// Returns a number as decimal text.
 fn decimal_of(alloc: Global, number: i64) -> Result<Vec<u8>, AllocError>
     ensures { IfOk result (λ text. text.items ≡ signed_decimal number) }
 {
@@ -43,7 +43,7 @@ fn decimal_of(alloc: Global, number: i64) -> Result<Vec<u8>, AllocError>
     Ok(text)
 }
 
-/// Returns the least and the greatest of byte strings.
+/// Returns the least and the greatest of byte strings, compared byte by byte.
 pub(crate) fn ends_of_strings(alloc: Global, cells: &BinaryArray<i64>) -> Result<Ends, AllocError>
     requires { cells.now.validity ≡ None }
     ensures { IfOk result
@@ -55,7 +55,7 @@ pub(crate) fn ends_of_strings(alloc: Global, cells: &BinaryArray<i64>) -> Result
     Ok(Ends { least, greatest })
 }
 
-/// Returns the least and the greatest of numbers.
+/// Returns the least and the greatest number, given in `ends`, as decimal texts.
 pub(crate) fn ends_of_numbers(alloc: Global, ends: Option<(i64, i64)>) -> Result<Ends, AllocError>
     ensures { IfOk result
         (λ texts. (option_map (λ v. v.items) texts.least

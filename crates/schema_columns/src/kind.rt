@@ -1,4 +1,4 @@
-//! Kinds of cells.
+//! The kinds of cells.
 
 ghost use Rattle.std.specs.List.{All};
 ghost use Rattle.std.specs.Prelude.{◌≡◌, ◌↔◌, ℕ, List, IsTrue};
@@ -10,22 +10,23 @@ use diff_numbers::cells::number_in;
 use polars_arrays_bytes::binary::BinaryArray;
 use polars_arrays_flat::byte_rows::ByteRows;
 
-/// The kind of all cells of a column, from the narrowest to the widest.
+/// The kind of the values of a column. The variants are ordered from the narrowest kind to the
+/// widest.
 #[derive(Clone, Copy, Debug, PartialEq, Eq)]
 pub enum Kind {
-    /// There is no cell.
+    /// No values.
     Empty,
-    /// The words `true` and `false`.
+    /// `true` or `false`.
     Truth,
-    /// Whole numbers from -2^63 to 2^63 - 1, with no point and no exponent.
+    /// Integers from -2^63 to 2^63 - 1, without a point or an exponent.
     Whole,
-    /// Numbers, as JSON writes them.
+    /// Numbers in JSON syntax.
     Number,
-    /// Any bytes.
+    /// Any byte strings.
     Text,
 }
 
-/// Returns the number of narrower kinds.
+/// Returns the position of a kind in the order from the narrowest (0) to the widest (4).
 fn width(kind: Kind) -> u8
     ensures { result ≡ width kind }
 {
@@ -38,30 +39,30 @@ fn width(kind: Kind) -> u8
     }
 }
 
-/// Returns whether two kinds are the same.
+/// Returns whether two kinds are equal.
 pub fn is_same_kind(left: Kind, right: Kind) -> bool
     ensures { result ≡ same_kind left right }
 {
     width(left) == width(right)
 }
 
-/// A test of cells.
+/// A condition on a cell.
 trait CellTest {
-    // The cells that pass.
+    // Says that a cell meets the condition.
     ghost Passes: { List ℕ → Type 0 };
 
-    /// Returns whether a cell passes.
+    /// Returns whether a cell meets the condition.
     fn passes(cell: &[u8]) -> bool
         ensures { IsTrue result ↔ Passes cell.now };
 }
 
-/// The test that truth values pass.
+/// The condition that a cell is `true` or `false`.
 struct Truths;
 
-/// The test that whole numbers pass.
+/// The condition that a cell is an integer (`Kind::Whole`).
 struct Wholes;
 
-/// The test that numbers pass.
+/// The condition that a cell is a number (`Kind::Number`).
 struct Numbers;
 
 impl CellTest for Truths {
@@ -94,7 +95,7 @@ impl CellTest for Numbers {
     }
 }
 
-/// Returns whether all cells pass a test.
+/// Returns whether all cells meet the condition `T`.
 fn all_pass<T: CellTest>(cells: &BinaryArray<i64>) -> bool
     ensures { IsTrue result ↔ All T.Passes (offset_strings (λ x. x) cells.now) }
 {
@@ -106,7 +107,7 @@ fn all_pass<T: CellTest>(cells: &BinaryArray<i64>) -> bool
     true
 }
 
-/// Returns the narrowest kind that all cells are of.
+/// Returns the narrowest kind that fits all cells.
 pub fn kind_of(cells: &BinaryArray<i64>) -> Kind
     ensures { IsNarrowest (offset_strings (λ x. x) cells.now) result }
 {

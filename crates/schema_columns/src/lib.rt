@@ -1,5 +1,5 @@
-//! Schemas of columns: the kind of the cells, the numbers of null, missing and different ones, and
-//! the least and the greatest of them.
+//! Makes schemas of columns: the kind of the values, the numbers of null and missing cells and of
+//! different values, and the least and greatest value.
 #![tactic(auto)]
 
 pub mod column;

@@ -1,4 +1,4 @@
-//! The cells of a column that have a value.
+//! Separates the values of a column from its null and missing cells.
 
 ghost use Rattle.std.specs.Option.{option_copied};
 ghost use Rattle.std.specs.Prelude.{◌≡◌, ◌<◌, ◌+◌, ◌++◌, ◌∷◌, [], ℕ, List, IfOk, OnOk, MatchResult};
@@ -11,18 +11,18 @@ use polars_arrays_bits::error::ComputeError;
 use polars_arrays_bytes::binary::BinaryArray;
 use std::alloc::{AllocError, Global};
 
-/// The cells of a column that have a value, and the numbers of null and of missing cells.
+/// The values of a column, and the numbers of its null and missing cells.
 #[derive(Drop)]
 pub struct Present {
-    /// The cells that are neither null nor missing, in the order of their rows.
+    /// The values: the cells that are neither null nor missing, in the order of their rows.
     pub cells: BinaryArray<i64>,
     /// The number of null cells.
     pub nulls: usize,
-    /// The number of missing cells: those that are empty and not null.
+    /// The number of missing cells, which are empty but not null.
     pub missing: usize,
 }
 
-/// Cells that are gathered one after another.
+/// The values found so far, and the numbers of null and missing cells.
 #[derive(Drop)]
 struct Gathered {
     cells: Strings,
@@ -30,7 +30,7 @@ struct Gathered {
     missing: usize,
 }
 
-/// Returns one more.
+/// Returns `n + 1`, or an error if this overflows.
 fn one_more(n: usize) -> Result<usize, AllocError>
     ensures { IfOk result (λ m. m ≡ n + 1) }
 {
@@ -38,7 +38,7 @@ fn one_more(n: usize) -> Result<usize, AllocError>
     n.checked_add(1).ok_or(AllocError)
 }
 
-/// Returns whether a cell is the word that stands for no value.
+/// Returns whether a cell is null: it equals `null`. Returns `false` if `null` is `None`.
 fn is_null(null: Option<&[u8]>, cell: &[u8]) -> bool
     ensures { result ≡ is_null (option_copied null.entry) cell.now }
 {
@@ -49,7 +49,7 @@ fn is_null(null: Option<&[u8]>, cell: &[u8]) -> bool
 }
 
 impl Gathered {
-    /// Adds a cell.
+    /// Adds a cell: as a null cell, as a missing cell, or as a value.
     fn add(&mut self, null: Option<&[u8]>, cell: &[u8]) -> Result<(), AllocError>
         ensures { OnOk result
             ((all : List (List ℕ)) → Gathers (option_copied null.entry) all self.old
@@ -68,8 +68,8 @@ impl Gathered {
     }
 }
 
-/// Returns the cells of a column that have a value. A cell that is the word `null` is null, and any
-/// other empty cell is missing. The only error is `Memory`.
+/// Returns the values of a column, and the numbers of its null and missing cells. A cell that
+/// equals `null` is null, and any other empty cell is missing. The only error is `Memory`.
 pub fn present_cells(
     alloc: Global,
     table: &Table,

@@ -1,4 +1,4 @@
-//! Cells that are whole numbers.
+//! Converts cells to integers.
 
 ghost use Rattle.std.specs.List.{All};
 ghost use Rattle.std.specs.Prelude.{◌≡◌, map, IfOk};
@@ -12,7 +12,7 @@ use polars_arrays_bytes::binary::BinaryArray;
 use polars_arrays_flat::byte_rows::ByteRows;
 use std::alloc::{AllocError, Global};
 
-/// Returns the whole number that a cell writes, or `None` if it is not one.
+/// Returns the integer in a cell. Returns `None` if the cell is not an integer as in `Kind::Whole`.
 pub(crate) fn whole_in(cell: &[u8]) -> Option<i64>
     ensures { SomeIff result (IsWhole cell.now) (whole_of cell.now) }
 {
@@ -21,7 +21,7 @@ pub(crate) fn whole_in(cell: &[u8]) -> Option<i64>
     numeral_of(bytes).to_i64(is_negative(bytes))
 }
 
-/// Returns the whole numbers that cells write.
+/// Returns the integer in each cell. Each cell must be an integer.
 pub(crate) fn wholes_of(alloc: Global, cells: &BinaryArray<i64>) -> Result<Vec<i64>, AllocError>
     requires { All IsWhole (offset_strings (λ x. x) cells.now) }
     ensures { IfOk result

@@ -1,4 +1,4 @@
-//! Differences between the paths of two files of documents, as JSON lines.
+//! Writes the differences between the paths of two files of documents, as JSON lines.
 
 ghost use Rattle.std.specs.Prelude.{◌≡◌, ◌++◌, OnOk};
 ghost use Rattle.diff_columns.specs.Errors.{word_of};
@@ -15,11 +15,11 @@ use schema_report::changes::{ChangeForm, counts_of, push_changes};
 use schema_report::changes_json::push_counts_members;
 use std::alloc::AllocError;
 
-/// Objects of JSON, one a line.
+/// The form of differences as JSON lines.
 #[derive(Clone, Copy)]
 struct PathObjects;
 
-/// Returns the word for a side.
+/// Returns the name of a side in JSON: `left` or `right`.
 fn word_of(side: Side) -> &'static [u8]
     ensures { result.now ≡ word_of side }
 {
@@ -29,7 +29,7 @@ fn word_of(side: Side) -> &'static [u8]
     }
 }
 
-/// Appends the object of a path that one file has alone.
+/// Appends the JSON line about a path that only the file on this side has.
 #[tactic(auto, unfolding(crate::specs::Changes::alone_object))]
 fn push_alone(out: &mut Vec<u8>, side: Side, path: &[u8]) -> Result<(), AllocError>
     ensures { OnOk result (out.new.items ≡ out.old.items ++ alone_object side path.now) }
@@ -42,7 +42,7 @@ fn push_alone(out: &mut Vec<u8>, side: Side, path: &[u8]) -> Result<(), AllocErr
     Ok(())
 }
 
-/// Appends the object of a path whose values have other kinds.
+/// Appends the JSON line about a path whose values have different kinds in the two files.
 #[tactic(auto, unfolding(crate::specs::Changes::kinds_object))]
 fn push_changed(out: &mut Vec<u8>, left: &PathSchema, right: &PathSchema) -> Result<(), AllocError>
     ensures { OnOk result (out.new.items ≡ out.old.items ++ kinds_object left.now right.now) }
@@ -83,8 +83,8 @@ impl ChangeForm<PathSchema> for PathObjects {
     }
 }
 
-/// Appends the differences between the paths of two files: an object for each difference, and one
-/// for the counts without its end.
+/// Appends a JSON line for each path that differs, and the JSON object with the counts without its
+/// closing brace, so that members can follow.
 fn push_path_objects(
     out: &mut Vec<u8>,
     left: &[PathSchema],
@@ -97,9 +97,9 @@ fn push_path_objects(
     Ok(())
 }
 
-/// Appends the differences between the paths of two files of documents, as JSON lines: an object
-/// for each difference, and one for the counts. Where lines may be passed over, the latter says how
-/// many of each file are.
+/// Appends the differences between the paths of two files of documents as JSON lines: a line for
+/// each path that differs, and a line with the counts. If lines may be skipped, the counts include
+/// the number of skipped lines of each file.
 pub fn push_document_objects(
     out: &mut Vec<u8>,
     left: &DocumentSchema,

@@ -1,4 +1,4 @@
-//! Differences between the paths of two files of documents, as text.
+//! Writes the differences between the paths of two files of documents, as text.
 
 ghost use Rattle.std.specs.Prelude.{◌≡◌, ◌++◌, OnOk};
 ghost use Rattle.schema_documents.specs.Changes.{alone_line, document_lines, kinds_line};
@@ -16,13 +16,13 @@ use schema_report::changes_text::push_counts;
 use schema_report::files::{Files, file_on};
 use std::alloc::AllocError;
 
-/// Lines of text, with the names of the two files.
+/// The form of differences as lines of text, with the names of the two files.
 #[derive(Clone, Copy)]
 struct PathLines<'a> {
     files: Files<'a>,
 }
 
-/// Appends the line of a path that one file has alone.
+/// Appends the line about a path that only one file has. `file` is the name of this file.
 #[tactic(auto, unfolding(crate::specs::Changes::alone_line))]
 fn push_alone(out: &mut Vec<u8>, file: &[u8], path: &[u8]) -> Result<(), AllocError>
     ensures { OnOk result (out.new.items ≡ out.old.items ++ alone_line file.now path.now) }
@@ -35,7 +35,7 @@ fn push_alone(out: &mut Vec<u8>, file: &[u8], path: &[u8]) -> Result<(), AllocEr
     Ok(())
 }
 
-/// Appends the line of a path whose values have other kinds.
+/// Appends the line about a path whose values have different kinds in the two files.
 #[tactic(auto, unfolding(crate::specs::Changes::kinds_line))]
 fn push_changed(out: &mut Vec<u8>, left: &PathSchema, right: &PathSchema) -> Result<(), AllocError>
     ensures { OnOk result (out.new.items ≡ out.old.items ++ kinds_line left.now right.now) }
@@ -77,8 +77,7 @@ impl ChangeForm<PathSchema> for PathLines<'_> {
     }
 }
 
-/// Appends the differences between the paths of two files: a line for each difference, and one for
-/// the counts.
+/// Appends a line for each path that differs, and a line with the counts.
 fn push_path_lines(
     out: &mut Vec<u8>,
     files: Files<'_>,
@@ -93,8 +92,8 @@ fn push_path_lines(
     Ok(())
 }
 
-/// Appends the differences between the paths of two files of documents, as text: a line for each
-/// difference, one for the counts, and one for each file with lines passed over.
+/// Appends the differences between the paths of two files of documents as text: a line for each
+/// path that differs, a line with the counts, and a line for each file with skipped lines.
 pub fn push_document_lines(
     out: &mut Vec<u8>,
     files: Files<'_>,

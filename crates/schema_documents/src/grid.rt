@@ -1,4 +1,4 @@
-//! The schemas of paths, as a table of words.
+//! Makes a table of the schemas of paths: a row of texts for each path, below a row of headings.
 
 ghost use Rattle.std.specs.Fmt.{decimal};
 ghost use Rattle.std.specs.Prelude.{◌≡◌, ◌++◌, ◌∷◌, [], ℕ, List, map, OnOk, IfOk, MatchResult};
@@ -18,7 +18,7 @@ use schema_paths::paths::PathSchema;
 use schema_report::words::{push_count, push_value};
 use std::alloc::{AllocError, Global};
 
-/// Appends the headings of a path and of what is not there.
+/// Appends the headings of the first columns: the path, and the numbers of null and missing values.
 fn push_head_names(cells: &mut Strings) -> Result<(), AllocError>
     ensures { OnOk result
         ((all : List (List ℕ)) → AreStrings cells.old all
@@ -41,7 +41,7 @@ fn push_two(cells: &mut Strings, first: &[u8], second: &[u8]) -> Result<(), Allo
     Ok(())
 }
 
-/// Appends the headings of the counts of the other kinds but numbers.
+/// Appends the headings of the numbers of truth values, texts, objects and arrays.
 fn push_kind_names(cells: &mut Strings) -> Result<(), AllocError>
     ensures { OnOk result
         ((all : List (List ℕ)) → AreStrings cells.old all
@@ -52,7 +52,7 @@ fn push_kind_names(cells: &mut Strings) -> Result<(), AllocError>
     Ok(())
 }
 
-/// Appends the headings of the properties of numbers.
+/// Appends the headings of the columns about numbers.
 fn push_number_names(cells: &mut Strings) -> Result<(), AllocError>
     ensures { OnOk result
         ((all : List (List ℕ)) → AreStrings cells.old all
@@ -63,7 +63,7 @@ fn push_number_names(cells: &mut Strings) -> Result<(), AllocError>
     Ok(())
 }
 
-/// Appends the headings of all properties.
+/// Appends the headings of all columns.
 fn push_header(cells: &mut Strings) -> Result<(), AllocError>
     ensures { OnOk result
         ((all : List (List ℕ)) → AreStrings cells.old all → AreStrings cells.new (all ++ header)) }
@@ -74,7 +74,7 @@ fn push_header(cells: &mut Strings) -> Result<(), AllocError>
     Ok(())
 }
 
-/// Appends a number. The text is made in `room`.
+/// Appends `n` as decimal text. `room` is memory that is overwritten.
 fn push_number(cells: &mut Strings, room: &mut Vec<u8>, n: usize) -> Result<(), AllocError>
     ensures { OnOk result
         ((all : List (List ℕ)) → AreStrings cells.old all
@@ -86,7 +86,8 @@ fn push_number(cells: &mut Strings, room: &mut Vec<u8>, n: usize) -> Result<(), 
     Ok(())
 }
 
-/// Appends a path, and how often it is null and missing. The texts are made in `room`.
+/// Appends the path, and the numbers of null and missing values. `room` is memory that is
+/// overwritten.
 fn push_head(cells: &mut Strings, room: &mut Vec<u8>, path: &PathSchema) -> Result<(), AllocError>
     ensures { OnOk result
         ((all : List (List ℕ)) → AreStrings cells.old all
@@ -100,7 +101,8 @@ fn push_head(cells: &mut Strings, room: &mut Vec<u8>, path: &PathSchema) -> Resu
     Ok(())
 }
 
-/// Appends the numbers of values of the other kinds but numbers.
+/// Appends the numbers of truth values, texts, objects and arrays. `room` is memory that is
+/// overwritten.
 fn push_kinds(cells: &mut Strings, room: &mut Vec<u8>, path: &PathSchema) -> Result<(), AllocError>
     ensures { OnOk result
         ((all : List (List ℕ)) → AreStrings cells.old all
@@ -113,7 +115,8 @@ fn push_kinds(cells: &mut Strings, room: &mut Vec<u8>, path: &PathSchema) -> Res
     Ok(())
 }
 
-/// Appends how many numbers there are and how many of them differ.
+/// Appends the number of numbers, and the number of different numbers. `room` is memory that is
+/// overwritten.
 fn push_numbers(
     cells: &mut Strings,
     room: &mut Vec<u8>,
@@ -130,7 +133,7 @@ fn push_numbers(
     Ok(())
 }
 
-/// Appends the least and the greatest number.
+/// Appends the least and the greatest number. `room` is memory that is overwritten.
 fn push_ends(cells: &mut Strings, room: &mut Vec<u8>, path: &PathSchema) -> Result<(), AllocError>
     ensures { OnOk result
         ((all : List (List ℕ)) → AreStrings cells.old all
@@ -145,7 +148,7 @@ fn push_ends(cells: &mut Strings, room: &mut Vec<u8>, path: &PathSchema) -> Resu
     Ok(())
 }
 
-/// Appends a path, how often it is missing, and the numbers of values of the kinds but numbers.
+/// Appends the first cells of a row: those of `push_head` and `push_kinds`.
 fn push_counts(cells: &mut Strings, room: &mut Vec<u8>, path: &PathSchema) -> Result<(), AllocError>
     ensures { OnOk result
         ((all : List (List ℕ)) → AreStrings cells.old all
@@ -156,7 +159,7 @@ fn push_counts(cells: &mut Strings, room: &mut Vec<u8>, path: &PathSchema) -> Re
     Ok(())
 }
 
-/// Appends the properties of the numbers of a path.
+/// Appends the last cells of a row: those of `push_numbers` and `push_ends`.
 fn push_values(cells: &mut Strings, room: &mut Vec<u8>, path: &PathSchema) -> Result<(), AllocError>
     ensures { OnOk result
         ((all : List (List ℕ)) → AreStrings cells.old all
@@ -167,7 +170,7 @@ fn push_values(cells: &mut Strings, room: &mut Vec<u8>, path: &PathSchema) -> Re
     Ok(())
 }
 
-/// Appends the properties of a path.
+/// Appends the row of a path.
 #[tactic(auto, unfolding(crate::specs::Grid::row_of))]
 fn push_row(cells: &mut Strings, room: &mut Vec<u8>, path: &PathSchema) -> Result<(), AllocError>
     ensures { OnOk result
@@ -179,10 +182,10 @@ fn push_row(cells: &mut Strings, room: &mut Vec<u8>, path: &PathSchema) -> Resul
     Ok(())
 }
 
-/// The number of words in a row.
+/// The number of columns.
 const WIDTH: usize = 11;
 
-/// Returns the properties of paths, below their headings. The only error is `Memory`.
+/// Returns a table of the schemas of `paths`, below a row of headings. The only error is `Memory`.
 pub(crate) fn grid_of(alloc: Global, paths: &[PathSchema]) -> Result<Table, ComputeError>
     ensures width { MatchResult result (λ grid. grid.width ≡ 11) IsMemory }
     ensures rows { IfOk result (λ grid. grid.rows ≡ header ∷ map row_of paths.now) }

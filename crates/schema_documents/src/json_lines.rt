@@ -1,4 +1,4 @@
-//! The schemas of paths as JSON lines.
+//! Writes the schemas of paths as JSON lines.
 
 ghost use Rattle.std.specs.List.{flat_map};
 ghost use Rattle.std.specs.Prelude.{◌≡◌, ◌++◌, OnOk};
@@ -12,7 +12,7 @@ use schema_paths::read::DocumentSchema;
 use schema_report::json_lines::{push_count, push_number, push_value};
 use std::alloc::AllocError;
 
-/// Appends the members with a path and the number of documents.
+/// Appends the beginning of an object, with the path and the number of documents.
 #[tactic(auto, unfolding(crate::specs::JsonLines::name_members))]
 fn push_name(out: &mut Vec<u8>, path: &PathSchema) -> Result<(), AllocError>
     ensures { OnOk result (out.new.items ≡ out.old.items ++ name_members path.now) }
@@ -23,7 +23,7 @@ fn push_name(out: &mut Vec<u8>, path: &PathSchema) -> Result<(), AllocError>
     Ok(())
 }
 
-/// Appends the member with the number of lines that are passed over, if lines may be.
+/// Appends the member with the number of skipped lines, if lines may be skipped.
 fn push_skipped(out: &mut Vec<u8>, skip_bad: bool, count: usize) -> Result<(), AllocError>
     ensures { OnOk result (out.new.items ≡ out.old.items ++ skipped_member skip_bad count) }
 {
@@ -33,7 +33,8 @@ fn push_skipped(out: &mut Vec<u8>, skip_bad: bool, count: usize) -> Result<(), A
     push_number(out, br#","skipped":"#, count)
 }
 
-/// Appends the members with the numbers of nulls, and of documents without the path.
+/// Appends the members with the numbers of null values, and of documents without a value at the
+/// path.
 #[tactic(auto, unfolding(crate::specs::JsonLines::hole_members))]
 fn push_holes(out: &mut Vec<u8>, path: &PathSchema) -> Result<(), AllocError>
     ensures { OnOk result (out.new.items ≡ out.old.items ++ hole_members path.now) }
@@ -43,8 +44,8 @@ fn push_holes(out: &mut Vec<u8>, path: &PathSchema) -> Result<(), AllocError>
     Ok(())
 }
 
-/// Appends the members with a path, and with the numbers of documents, lines that are passed over,
-/// nulls, and documents without the path.
+/// Appends the first members of an object: those of `push_name`, `push_skipped` and `push_holes`.
+/// `count` is the number of skipped lines.
 fn push_head(
     out: &mut Vec<u8>,
     skip_bad: bool,
@@ -59,7 +60,7 @@ fn push_head(
     Ok(())
 }
 
-/// Appends the members with the numbers of values of the other kinds but numbers.
+/// Appends the members with the numbers of truth values, texts, objects and arrays.
 #[tactic(auto, unfolding(crate::specs::JsonLines::kind_members))]
 fn push_kinds(out: &mut Vec<u8>, path: &PathSchema) -> Result<(), AllocError>
     ensures { OnOk result (out.new.items ≡ out.old.items ++ kind_members path.now) }
@@ -71,7 +72,7 @@ fn push_kinds(out: &mut Vec<u8>, path: &PathSchema) -> Result<(), AllocError>
     Ok(())
 }
 
-/// Appends the members with how many numbers there are and how many of them differ.
+/// Appends the members with the number of numbers, and the number of different numbers.
 #[tactic(auto, unfolding(crate::specs::JsonLines::number_members))]
 fn push_numbers(out: &mut Vec<u8>, path: &PathSchema) -> Result<(), AllocError>
     ensures { OnOk result (out.new.items ≡ out.old.items ++ number_members path.now) }
@@ -81,7 +82,8 @@ fn push_numbers(out: &mut Vec<u8>, path: &PathSchema) -> Result<(), AllocError>
     Ok(())
 }
 
-/// Appends the members with the least and the greatest number.
+/// Appends the members with the least and the greatest number, and the end of the object and of the
+/// line.
 #[tactic(auto, unfolding(crate::specs::JsonLines::end_members))]
 fn push_ends(out: &mut Vec<u8>, path: &PathSchema) -> Result<(), AllocError>
     ensures { OnOk result (out.new.items ≡ out.old.items ++ end_members path.now) }
@@ -92,7 +94,7 @@ fn push_ends(out: &mut Vec<u8>, path: &PathSchema) -> Result<(), AllocError>
     Ok(())
 }
 
-/// Appends a path as an object in a line.
+/// Appends the JSON line of a path. `count` is the number of skipped lines.
 fn push_path(
     out: &mut Vec<u8>,
     skip_bad: bool,
@@ -108,7 +110,7 @@ fn push_path(
     Ok(())
 }
 
-/// Appends paths as JSON lines, an object for each. `count` lines are passed over.
+/// Appends a JSON line for each path. `count` is the number of skipped lines.
 fn push_paths(
     out: &mut Vec<u8>,
     skip_bad: bool,
@@ -124,7 +126,7 @@ fn push_paths(
     Ok(())
 }
 
-/// Appends the paths of documents as JSON lines, an object for each.
+/// Appends the schema of documents as JSON lines, one for each path.
 pub fn push_schema_json(out: &mut Vec<u8>, schema: &DocumentSchema) -> Result<(), AllocError>
     ensures { OnOk result (out.new.items ≡ out.old.items ++ schema_lines schema.now) }
 {

@@ -1,4 +1,4 @@
-//! The kinds of the values at a path, in words.
+//! Writes the kinds of the values at a path.
 
 ghost use Rattle.std.specs.Prelude.{◌≡◌, ◌++◌, ℕ, List, IfOk, OnOk};
 ghost use Rattle.schema_documents.specs.Changes.{AreJoined, joined, kind_words, word_if};
@@ -6,8 +6,9 @@ ghost use Rattle.schema_documents.specs.Changes.{AreJoined, joined, kind_words, 
 use schema_paths::paths::PathSchema;
 use std::alloc::AllocError;
 
-/// Appends the word for a kind that has this many values, after the text `between` if there are
-/// words before it. Appends nothing if there are no values. Returns whether there are words now.
+/// Appends the name of a kind, if `count` is not 0. The text `between` comes before it if `some` is
+/// true. `count` is the number of values of the kind, and `some` says that a name was appended
+/// before. Returns whether a name has been appended by now.
 fn push_kind(
     out: &mut Vec<u8>,
     between: &[u8],
@@ -30,7 +31,8 @@ fn push_kind(
     Ok(true)
 }
 
-/// Appends the words for the kinds of the values at a path, with the text `between` between them.
+/// Appends the names of all kinds that the values at a path have, with the text `between` between
+/// two names.
 pub(crate) fn push_kinds(
     out: &mut Vec<u8>,
     between: &[u8],

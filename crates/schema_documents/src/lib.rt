@@ -1,5 +1,5 @@
-//! The schema of JSON documents, and the differences between two such schemas, as text and as JSON
-//! lines.
+//! Writes the schema of JSON documents, and the differences between two schemas, as text and as
+//! JSON lines.
 #![tactic(auto)]
 
 pub mod changes_json;

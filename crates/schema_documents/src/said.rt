@@ -1,4 +1,4 @@
-//! The schema of documents, printed as text or as JSON lines.
+//! Writes the schema of documents in either form.
 
 ghost use Rattle.std.specs.Prelude.{◌≡◌, ◌++◌, ℕ, List, Some, IfErr, OnOk};
 ghost use Rattle.schema_paths.specs.Errors.{IsMemory, IsSchemaFault};
@@ -12,7 +12,8 @@ use schema_run::said::Form;
 use std::alloc::Global;
 use std::io::Read;
 
-/// Appends the schema of documents, under the name of their file. The only error is `Memory`.
+/// Appends the schema of documents in this form. `file` is the name of their file. The only error
+/// is `Memory`.
 fn push_form(
     alloc: Global,
     out: &mut Vec<u8>,
@@ -35,8 +36,9 @@ fn push_form(
     }
 }
 
-/// Reads documents, one a line, and appends their schema, under the name of their file. Fails as
-/// `read_document_schema` of `schema_paths` does.
+/// Reads an input with a document on each line, and appends the schema of the documents. `file` is
+/// the name of the input. Fails if `read_document_schema` of `schema_paths` does, or if an
+/// allocation fails.
 pub fn push_schema_of<R: Read + Drop>(
     alloc: Global,
     out: &mut Vec<u8>,

@@ -1,4 +1,4 @@
-//! The lines of files that are passed over, since they are no documents.
+//! Writes the numbers of lines that were skipped because they are not documents.
 
 ghost use Rattle.std.specs.Prelude.{◌≡◌, ◌++◌, OnOk};
 ghost use Rattle.document_words.specs.Skipped.{first_word, lines_word, skipped_members};
@@ -9,7 +9,7 @@ use diff_words::words::push_word;
 use schema_report::json_lines::push_number;
 use std::alloc::AllocError;
 
-/// Returns the words after the number of lines.
+/// Returns the text after the number of skipped lines, in the singular or the plural.
 fn lines_word(count: usize) -> &'static [u8]
     ensures { result.now ≡ lines_word count }
 {
@@ -20,7 +20,7 @@ fn lines_word(count: usize) -> &'static [u8]
     }
 }
 
-/// Returns the words before the number of the first line, where `count` lines are passed over.
+/// Returns the text before the number of the first skipped line, for `count` skipped lines.
 fn first_word(count: usize) -> &'static [u8]
     ensures { result.now ≡ first_word count }
 {
@@ -31,8 +31,8 @@ fn first_word(count: usize) -> &'static [u8]
     }
 }
 
-/// Appends the number of lines of a file that are passed over, and the number of the first one.
-/// Appends nothing if there are none.
+/// Appends a line with the number of skipped lines of a file, and with the number of the first of
+/// them. `numbers` are the numbers of the skipped lines. Appends nothing if no lines were skipped.
 #[tactic(auto, unfolding(document_words::specs::Skipped::skipped_text))]
 pub(crate) fn push_skipped(
     out: &mut Vec<u8>,
@@ -54,8 +54,8 @@ pub(crate) fn push_skipped(
     Ok(())
 }
 
-/// Appends how many lines of each file are passed over, as members of an object. Appends nothing if
-/// lines may not be passed over.
+/// Appends the members `left_skipped` and `right_skipped`, each after a comma: the numbers of
+/// skipped lines. Appends nothing if lines may not be skipped.
 #[tactic(auto, unfolding(document_words::specs::Skipped::skipped_members))]
 pub(crate) fn push_skipped_members(
     out: &mut Vec<u8>,

@@ -1,4 +1,4 @@
-//! The schemas of paths as text.
+//! Writes the schemas of paths as text.
 
 ghost use Rattle.std.specs.Prelude.{◌≡◌, ◌++◌, OnOk, IfErr};
 ghost use Rattle.polars_arrays_bits.specs.Errors.{IsMemory};
@@ -14,7 +14,7 @@ use schema_paths::read::DocumentSchema;
 use schema_report::aligned::push_aligned;
 use std::alloc::{AllocError, Global};
 
-/// Returns what stands after the number of documents.
+/// Returns the text after the number of documents, in the singular or the plural.
 fn documents_word(count: usize) -> &'static [u8]
     ensures { result.now ≡ documents_word count }
 {
@@ -25,14 +25,14 @@ fn documents_word(count: usize) -> &'static [u8]
     }
 }
 
-/// Returns what stands after the number of paths.
+/// Returns the text after the number of paths, in the singular or the plural.
 fn paths_word(count: usize) -> &'static [u8]
     ensures { result.now ≡ paths_word count }
 {
     if count == 1 { b" path\n" } else { b" paths\n" }
 }
 
-/// Appends how many documents a file has, and how many paths.
+/// Appends a line with the name of a file, the number of its documents and the number of its paths.
 #[tactic(auto, unfolding(crate::specs::Text::head_line))]
 fn push_head(
     out: &mut Vec<u8>,
@@ -51,8 +51,9 @@ fn push_head(
     Ok(())
 }
 
-/// Appends the schemas of the paths of a file, in a line each, and how many lines are passed over
-/// if some are. The only error is `Memory`.
+/// Appends the schema of documents as text: a first line with counts, a line for each path, and a
+/// line about skipped lines if there are any. `file` is the name of their file. The only error is
+/// `Memory`.
 pub fn push_schema(
     alloc: Global,
     out: &mut Vec<u8>,

@@ -1,4 +1,4 @@
-//! Errors of reading the schema of documents.
+//! The errors of reading the schema of documents.
 
 ghost use Rattle.schema_paths.specs.Errors.{IsMemory};
 
@@ -6,16 +6,16 @@ use document_rows::error::ReadError;
 use std::alloc::AllocError;
 use thiserror::Error;
 
-/// The reason why there is no schema of the documents of an input.
+/// An error of reading the schema of documents.
 #[derive(Debug, Drop, Error)]
 pub enum SchemaError {
     /// An allocation failed.
     #[error("out of memory")]
     Memory,
-    /// The input can't be read, or a line of it is no document.
+    /// The input can't be read, or has a line that is not a document.
     #[error("{cause}")]
     Read { cause: ReadError },
-    /// Lines that are no documents are passed over, and no line is a document.
+    /// The input has lines, but all of them were skipped because they are not documents.
     #[error("no line is a document")]
     AllSkipped,
 }

@@ -1,4 +1,4 @@
-//! Values counted by their kinds.
+//! Counts values by their kinds.
 
 ghost use Rattle.std.specs.Prelude.{◌≡◌, ◌+◌, IfOk};
 
@@ -7,7 +7,7 @@ use json::Value;
 use json_groups::tally::Tally;
 use std::alloc::{AllocError, Global};
 
-/// The number of values of each kind, and the texts of the numbers.
+/// The number of values of each kind. Of numbers, the texts are stored.
 #[derive(Drop)]
 pub struct Kinds {
     pub(crate) nulls: usize,
@@ -18,7 +18,7 @@ pub struct Kinds {
     pub(crate) numbers: Strings,
 }
 
-/// Returns one more.
+/// Returns `n + 1`, or an error if this overflows.
 fn one_more(n: usize) -> Result<usize, AllocError>
     ensures { IfOk result (λ m. m ≡ n + 1) }
 {

@@ -1,5 +1,5 @@
-//! The schema of JSON documents: how many values of each kind there are at each path, and the
-//! extremes of the numbers there.
+//! Makes the schema of JSON documents: for each path the number of values of each kind, and the
+//! least and greatest number.
 #![tactic(auto)]
 
 pub mod error;

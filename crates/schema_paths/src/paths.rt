@@ -1,4 +1,4 @@
-//! The schemas of paths.
+//! Makes the schemas of paths.
 
 ghost use Rattle.std.specs.Prelude.{◌≡◌, List, length, IfOk, MatchResult};
 ghost use Rattle.polars_arrays_bits.specs.Errors.{IsMemory};
@@ -15,18 +15,18 @@ use schema_values::numbers::number_values;
 use schema_values::part::SchemaPart;
 use std::alloc::Global;
 
-/// A summary of the values at a path of documents.
+/// The schema of a path: a summary of the values at this path in all documents.
 #[derive(Drop)]
 pub struct PathSchema {
-    /// The text of the path.
+    /// The path as text.
     pub path: Vec<u8>,
-    /// The number of documents.
+    /// The number of all documents.
     pub documents: usize,
-    /// The number of values that are null.
+    /// The number of null values at the path.
     pub nulls: usize,
-    /// The number of documents that have no value at the path.
+    /// The number of documents without a value at the path.
     pub missing: usize,
-    /// The number of values that are true or false.
+    /// The number of values that are `true` or `false`.
     pub truths: usize,
     /// The number of values that are strings.
     pub texts: usize,
@@ -36,16 +36,18 @@ pub struct PathSchema {
     pub arrays: usize,
     /// The number of values that are numbers.
     pub numbers: usize,
-    /// The number of different numbers, which are compared exactly. It is never `None` if all
-    /// exponents have at most 30 digits.
+    /// The number of different numbers, compared as exact decimals. `None` only if an exponent has
+    /// more than 30 digits.
     pub distinct: Option<usize>,
-    /// The least number, as its first text. `None` if there is no number.
+    /// The least number, in the spelling that comes first in the file. `None` if `distinct` is
+    /// `None` or there is no number.
     pub least: Option<Vec<u8>>,
-    /// The greatest number, as its first text. `None` if there is no number.
+    /// The greatest number, in the spelling that comes first in the file. `None` if `distinct` is
+    /// `None` or there is no number.
     pub greatest: Option<Vec<u8>>,
 }
 
-/// Returns whether two counts are both 0, or neither is.
+/// Returns whether two counts are both 0, or both are not 0.
 fn is_alike(left: usize, right: usize) -> bool
     ensures { result ≡ is_alike left right }
 {
@@ -73,7 +75,7 @@ impl SchemaPart for PathSchema {
     }
 }
 
-/// Returns the schema of the path of a group, which was made from this many documents. The only
+/// Returns the schema of the path of a group. `documents` is the number of all documents. The only
 /// error is `Memory`.
 fn schema_of(
     alloc: Global,
@@ -105,8 +107,8 @@ fn schema_of(
     })
 }
 
-/// Returns the schemas of the paths of groups, which were made from this many documents. The only
-/// error is `Memory`.
+/// Returns the schema of the path of each group. `documents` is the number of all documents. The
+/// only error is `Memory`.
 pub(crate) fn schemas_of(
     alloc: Global,
     groups: Vec<Group<Kinds>>,

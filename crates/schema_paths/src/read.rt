@@ -1,4 +1,4 @@
-//! The schema of the documents of an input.
+//! Reads documents, and makes their schema.
 
 ghost use Rattle.std.specs.Prelude.{◌≡◌, ◌<◌, ◌++◌, ◌∷◌, [], ℕ, Bool, false, List, Some, length};
 ghost use Rattle.std.specs.Prelude.{map, IfOk, OnOk, MatchResult};
@@ -21,20 +21,21 @@ use json_parts::laws::part_laws;
 use std::alloc::{AllocError, Global};
 use std::io::Read;
 
-/// The schemas of the paths of documents.
+/// The schema of documents: the schemas of all their paths.
 #[derive(Drop)]
 pub struct DocumentSchema {
     /// The number of documents.
     pub documents: usize,
-    /// `true` if lines that are no documents are passed over.
+    /// `true` if lines that are not documents are skipped. `false` if they are errors.
     pub skip_bad: bool,
-    /// The numbers of the lines that are passed over, since they are no documents.
+    /// The numbers of the lines that were skipped because they are not documents.
     pub skipped: Vec<u64>,
-    /// Its paths, in the order in which they first come.
+    /// The schemas of the paths, in the order in which the paths first occur.
     pub paths: Vec<PathSchema>,
 }
 
-/// Adds the document of a row. `scratch` may be used for one document after another.
+/// Adds the values of the document of a row to the groups. `scratch` is memory that can be reused
+/// for each document.
 fn add_row(
     alloc: Global,
     groups: &mut Groups<Kinds>,
@@ -54,7 +55,7 @@ fn add_row(
     Ok(())
 }
 
-/// Gathers the parts of the documents of a table.
+/// Returns the values of all documents of a table, grouped by path.
 fn groups_of(alloc: Global, table: &Table) -> Result<Groups<Kinds>, AllocError>
     requires { (skip_bad : Bool) × (lines : List (List ℕ))
         × tables.AreRowsOf (whole skip_bad) [] lines table.now }
@@ -70,7 +71,7 @@ fn groups_of(alloc: Global, table: &Table) -> Result<Groups<Kinds>, AllocError>
     Ok(groups)
 }
 
-/// Returns the schemas of the paths of the documents of a table. The only error is `Memory`.
+/// Returns the schemas of all paths in the documents of a table. The only error is `Memory`.
 fn table_paths(alloc: Global, table: &Table) -> Result<Vec<PathSchema>, SchemaError>
     requires { (skip_bad : Bool) × (lines : List (List ℕ))
         × tables.AreRowsOf (whole skip_bad) [] lines table.now }
@@ -88,15 +89,16 @@ fn table_paths(alloc: Global, table: &Table) -> Result<Vec<PathSchema>, SchemaEr
     }
 }
 
-/// Returns whether no line is a document, and some are passed over.
+/// Returns whether an input has lines, but all of them were skipped.
 fn none_kept(read: &Documents) -> bool
     ensures { result ≡ none_kept read.now.lines.items read.now.skipped.items }
 {
     read.lines.is_empty() && !read.skipped.is_empty()
 }
 
-/// Reads the documents of an input. Lines that are no documents are passed over, or they are
-/// errors.
+/// Reads the documents of an input. If `skip_bad` is set, lines that are not documents are skipped,
+/// and else they are errors. Fails with `AllSkipped` if there are lines, but all of them were
+/// skipped.
 fn documents_in<R: Read + Drop>(
     alloc: Global,
     input: R,
@@ -128,9 +130,11 @@ fn documents_in<R: Read + Drop>(
     }
 }
 
-/// Reads the documents of an input, one a line, and returns the schemas of their paths. Fails with
-/// `Read` as `read_documents` of `document_rows` does: where `skip_bad` is set, no line is at
-/// fault. Then it fails with `AllSkipped` if there are lines, and none of them is a document.
+/// Reads an input with a document on each line, and returns the schema of the documents. If
+/// `skip_bad` is set, lines that are not documents are skipped.
+///
+/// Fails with `Read` if the input can't be read, or if a line is not a document and `skip_bad` is
+/// not set. Fails with `AllSkipped` if there are lines, but all of them were skipped.
 pub fn read_document_schema<R: Read + Drop>(
     alloc: Global,
     input: R,

@@ -1,4 +1,4 @@
-//! Tables of words, whose columns stand one under another.
+//! Writes tables of texts in aligned columns.
 
 ghost use Rattle.std.specs.Prelude.{◌≡◌, ◌<◌, ◌+◌, ◌-◌, ◌++◌, ◌∷◌, ℕ, [], length, get_or};
 ghost use Rattle.std.specs.Prelude.{replicate, IfOk, OnOk};
@@ -8,21 +8,21 @@ ghost use Rattle.schema_report.specs.Aligned.{widest};
 use diff_tables::table::Table;
 use std::alloc::{AllocError, Global};
 
-/// Returns whether a byte is the first one of a character.
+/// Returns whether a byte begins a character in UTF-8: it is no continuation byte (128 to 191).
 fn begins(byte: u8) -> bool
     ensures { result ≡ begins byte }
 {
     byte < 128 || 191 < byte
 }
 
-/// Returns how many characters a text has.
+/// Returns the number of characters in a text, counted by their first bytes.
 fn glyphs(text: &[u8]) -> usize
     ensures { result ≡ glyphs text.now }
 {
     text.iter().filter(|byte| begins(**byte)).count()
 }
 
-/// Returns how many characters the longest cell of a column has.
+/// Returns the number of characters in the longest cell of a column.
 fn widest(table: &Table, column: usize) -> usize
     requires { column < table.now.width }
     ensures { result ≡ widest column table.now.rows (length table.now.rows) }
@@ -34,7 +34,7 @@ fn widest(table: &Table, column: usize) -> usize
     most
 }
 
-/// Returns for each column how many characters its longest cell has.
+/// Returns for each column the number of characters in its longest cell.
 fn widths_of(alloc: Global, table: &Table) -> Result<Vec<usize>, AllocError>
     ensures many { IfOk result (λ widths. length widths.items ≡ table.now.width) }
     ensures each { IfOk result
@@ -48,7 +48,8 @@ fn widths_of(alloc: Global, table: &Table) -> Result<Vec<usize>, AllocError>
     Ok(widths)
 }
 
-/// Appends blanks after a text of `len` characters, up to a width.
+/// Appends blanks to a text of `len` characters, up to `width` characters. Appends nothing if it is
+/// as long or longer.
 fn push_blanks(out: &mut Vec<u8>, len: usize, width: usize) -> Result<(), AllocError>
     ensures { OnOk result (out.new.items ≡ out.old.items ++ replicate (width - len) 32) }
 {
@@ -58,7 +59,8 @@ fn push_blanks(out: &mut Vec<u8>, len: usize, width: usize) -> Result<(), AllocE
     Ok(())
 }
 
-/// Appends a cell, and the blanks between it and the next one.
+/// Appends the cell in row `i` and this column. Blanks up to the width of the column and two more
+/// follow, except after the last column.
 fn push_cell(
     out: &mut Vec<u8>,
     table: &Table,
@@ -85,7 +87,7 @@ fn push_cell(
     Ok(())
 }
 
-/// Appends a row in a line.
+/// Appends row `i` as a line.
 fn push_line(out: &mut Vec<u8>, table: &Table, widths: &[usize], i: usize) -> Result<(), AllocError>
     requires row { i < length table.now.rows }
     requires many { length widths.now ≡ table.now.width }
@@ -103,8 +105,8 @@ fn push_line(out: &mut Vec<u8>, table: &Table, widths: &[usize], i: usize) -> Re
     Ok(())
 }
 
-/// Appends the rows of a table in a line each. After a cell come blanks up to the longest cell of
-/// its column, and two more before the next column.
+/// Appends the rows of a table, a line for each. Each cell except the last of a row is filled with
+/// blanks to the length of the longest cell in its column, and followed by two more blanks.
 pub fn push_aligned(alloc: Global, out: &mut Vec<u8>, table: &Table) -> Result<(), AllocError>
     ensures { OnOk result
         (out.new.items ≡ out.old.items ++ aligned table.now.width table.now.rows) }

@@ -1,4 +1,5 @@
-//! Differences between the parts of two schemas, which are columns or paths.
+//! Finds the differences between two schemas. A schema is a list of parts, which are columns or
+//! paths.
 
 ghost use Rattle.std.specs.List.{count_by};
 ghost use Rattle.std.specs.Option.{option_copied};
@@ -11,34 +12,38 @@ use diff_columns::error::Side;
 use schema_values::part::SchemaPart;
 use std::alloc::AllocError;
 
-/// The numbers of parts that have other kinds, are in one schema alone, and are the same.
+/// The number of parts in each state, after the parts of two schemas were matched by name.
 #[derive(Clone, Copy, Debug, PartialEq, Eq)]
 pub struct SchemaCounts {
+    /// The number of parts in both schemas with different kinds.
     pub changed: usize,
+    /// The number of parts in the left schema alone.
     pub removed: usize,
+    /// The number of parts in the right schema alone.
     pub added: usize,
+    /// The number of parts in both schemas with the same kinds.
     pub same: usize,
 }
 
-/// A form in which differences between parts are written.
+/// A format for the differences between parts.
 pub trait ChangeForm<S: SchemaPart> {
-    // What is written of a part that one side has alone.
+    // The text about a part that only one side has.
     ghost alone: { Self → Side → S → List ℕ };
 
-    // What is written of a left and a right part whose kinds differ.
+    // The text about a left and a right part with different kinds.
     ghost changed: { Self → S → S → List ℕ };
 
-    /// Appends a part that one side has alone.
+    /// Appends the text about a part that only one side has.
     fn push_alone(&self, out: &mut Vec<u8>, side: Side, part: &S) -> Result<(), AllocError>
         ensures { OnOk result (out.new.items ≡ out.old.items ++ alone self.now side part.now) };
 
-    /// Appends a left and a right part whose kinds differ.
+    /// Appends the text about a left and a right part of the same name with different kinds.
     fn push_changed(&self, out: &mut Vec<u8>, left: &S, right: &S) -> Result<(), AllocError>
         ensures { OnOk result
             (out.new.items ≡ out.old.items ++ changed self.now left.now right.now) };
 }
 
-/// Returns the first part that has this name.
+/// Returns the first of `parts` with this name, or `None` if no part has it.
 fn named<'a, S: SchemaPart>(parts: &'a [S], name: &[u8]) -> Option<&'a S>
     ensures { option_copied result ≡ named S.name_of name.now parts.now }
 {
@@ -50,14 +55,15 @@ fn named<'a, S: SchemaPart>(parts: &'a [S], name: &[u8]) -> Option<&'a S>
     None
 }
 
-/// Returns whether none of the other parts has the name of this part.
+/// Returns whether no part among `others` has the name of `part`.
 fn is_alone<S: SchemaPart>(others: &[S], part: &S) -> bool
     ensures { result ≡ is_alone S.name_of others.now part.now }
 {
     named(others, part.name()).is_none()
 }
 
-/// Returns whether the first other part of this name has other kinds.
+/// Returns whether the first part among `others` with the name of `part` has different kinds.
+/// Returns `false` if there is no such part.
 fn is_changed<S: SchemaPart>(others: &[S], part: &S) -> bool
     ensures { result ≡ is_changed S.name_of S.same_kinds others.now part.now }
 {
@@ -67,7 +73,7 @@ fn is_changed<S: SchemaPart>(others: &[S], part: &S) -> bool
     }
 }
 
-/// Returns how many of `parts` have no part of their name among the others.
+/// Returns how many of `parts` have a name that no part among `others` has.
 fn count_alone<S: SchemaPart>(others: &[S], parts: &[S]) -> usize
     ensures { result ≡ count_by (is_alone S.name_of others.now) parts.now }
 {
@@ -80,7 +86,8 @@ fn count_alone<S: SchemaPart>(others: &[S], parts: &[S]) -> usize
     count
 }
 
-/// Returns how many of `parts` have other kinds than the first part of their name among the others.
+/// Returns how many of `parts` have different kinds than the first part with the same name among
+/// `others`.
 fn count_changed<S: SchemaPart>(others: &[S], parts: &[S]) -> usize
     ensures { result ≡ count_by (is_changed S.name_of S.same_kinds others.now) parts.now }
 {
@@ -93,8 +100,9 @@ fn count_changed<S: SchemaPart>(others: &[S], parts: &[S]) -> usize
     count
 }
 
-/// Returns how many parts, matched by name, have other kinds (`changed`), are in the left schema
-/// alone (`removed`), are in the right one alone (`added`), and are the same.
+/// Matches the parts of two schemas by name, and returns the numbers of parts with different kinds
+/// (`changed`), in the left schema alone (`removed`), in the right schema alone (`added`), and with
+/// the same kinds (`same`).
 pub fn counts_of<S: SchemaPart>(left: &[S], right: &[S]) -> SchemaCounts
     ensures { result ≡ counts_of S.name_of S.same_kinds left.now right.now }
 {
@@ -108,7 +116,8 @@ pub fn counts_of<S: SchemaPart>(left: &[S], right: &[S]) -> SchemaCounts
     }
 }
 
-/// Appends a left part, unless it is the same as the right one of its name.
+/// Appends the text about a left part, if the right schema has no part of its name, or has one with
+/// different kinds.
 fn push_change<S: SchemaPart, F: ChangeForm<S>>(
     out: &mut Vec<u8>,
     form: &F,
@@ -131,7 +140,7 @@ fn push_change<S: SchemaPart, F: ChangeForm<S>>(
     }
 }
 
-/// Appends a right part, if the left schema has none of its name.
+/// Appends the text about a right part, if the left schema has no part of its name.
 fn push_lone<S: SchemaPart, F: ChangeForm<S>>(
     out: &mut Vec<u8>,
     form: &F,
@@ -148,7 +157,8 @@ fn push_lone<S: SchemaPart, F: ChangeForm<S>>(
     Ok(())
 }
 
-/// Appends the parts of two schemas that differ.
+/// Appends the texts about all differences between two schemas: first those of the left parts in
+/// order, then those of the parts that only the right schema has.
 pub fn push_changes<S: SchemaPart, F: ChangeForm<S>>(
     out: &mut Vec<u8>,
     form: &F,

@@ -1,4 +1,4 @@
-//! Differences between the columns of two tables, as JSON lines.
+//! Writes the differences between the columns of two tables, as JSON lines.
 
 ghost use Rattle.std.specs.Prelude.{◌≡◌, ◌++◌, OnOk};
 ghost use Rattle.schema_report.specs.ColumnChanges.{column_objects, counts_members};
@@ -14,11 +14,11 @@ use schema_columns::column::ColumnSchema;
 use schema_columns::kind::Kind;
 use std::alloc::AllocError;
 
-/// Objects of JSON, one a line.
+/// The form of differences as JSON lines.
 #[derive(Clone, Copy)]
 struct ColumnObjects;
 
-/// Appends the object of a column whose kinds differ.
+/// Appends the JSON line about a column whose kinds differ.
 #[tactic(auto, unfolding(crate::specs::ColumnChanges::kind_object))]
 fn push_kinds(out: &mut Vec<u8>, name: &[u8], left: Kind, right: Kind) -> Result<(), AllocError>
     ensures { OnOk result (out.new.items ≡ out.old.items ++ kind_object name.now left right) }
@@ -60,7 +60,7 @@ impl ChangeForm<ColumnSchema> for ColumnObjects {
     }
 }
 
-/// Appends the object of the counts without its closing brace, so that members may follow.
+/// Appends the JSON object with the counts without its closing brace, so that members can follow.
 #[tactic(auto, unfolding(crate::specs::ColumnChanges::counts_members))]
 pub fn push_counts_members(out: &mut Vec<u8>, counts: SchemaCounts) -> Result<(), AllocError>
     ensures { OnOk result (out.new.items ≡ out.old.items ++ counts_members counts) }
@@ -72,8 +72,8 @@ pub fn push_counts_members(out: &mut Vec<u8>, counts: SchemaCounts) -> Result<()
     Ok(())
 }
 
-/// Appends the differences between the columns of two files, as JSON lines: an object for each
-/// difference, and one for the counts.
+/// Appends the differences between the columns of two files as JSON lines: a line for each column
+/// that differs, and a line with the counts.
 pub fn push_column_objects(
     out: &mut Vec<u8>,
     left: &[ColumnSchema],

@@ -1,4 +1,4 @@
-//! Differences between the columns of two tables, as text.
+//! Writes the differences between the columns of two tables, as text.
 
 ghost use Rattle.std.specs.Prelude.{◌≡◌, ◌++◌, OnOk};
 ghost use Rattle.schema_report.specs.ColumnChanges.{alone_line, column_lines, counts_line};
@@ -14,13 +14,13 @@ use schema_columns::column::ColumnSchema;
 use schema_columns::kind::Kind;
 use std::alloc::AllocError;
 
-/// Lines of text, with the names of the two files.
+/// The form of differences as lines of text, with the names of the two files.
 #[derive(Clone, Copy)]
 struct ColumnLines<'a> {
     files: Files<'a>,
 }
 
-/// Appends the line of a column that one file has alone.
+/// Appends the line about a column that only one file has. `file` is the name of this file.
 #[tactic(auto, unfolding(crate::specs::ColumnChanges::alone_line))]
 fn push_alone(out: &mut Vec<u8>, file: &[u8], name: &[u8]) -> Result<(), AllocError>
     ensures { OnOk result (out.new.items ≡ out.old.items ++ alone_line file.now name.now) }
@@ -33,7 +33,7 @@ fn push_alone(out: &mut Vec<u8>, file: &[u8], name: &[u8]) -> Result<(), AllocEr
     Ok(())
 }
 
-/// Appends the line of a column whose kinds differ.
+/// Appends the line about a column whose kinds differ.
 #[tactic(auto, unfolding(crate::specs::ColumnChanges::kind_line))]
 fn push_kinds(out: &mut Vec<u8>, name: &[u8], left: Kind, right: Kind) -> Result<(), AllocError>
     ensures { OnOk result (out.new.items ≡ out.old.items ++ kind_line name.now left right) }
@@ -74,7 +74,7 @@ impl ChangeForm<ColumnSchema> for ColumnLines<'_> {
     }
 }
 
-/// Appends the line of the counts.
+/// Appends the line with the counts.
 #[tactic(auto, unfolding(crate::specs::ColumnChanges::counts_line))]
 pub fn push_counts(out: &mut Vec<u8>, counts: SchemaCounts) -> Result<(), AllocError>
     ensures { OnOk result (out.new.items ≡ out.old.items ++ counts_line counts) }
@@ -90,8 +90,8 @@ pub fn push_counts(out: &mut Vec<u8>, counts: SchemaCounts) -> Result<(), AllocE
     Ok(())
 }
 
-/// Appends the differences between the columns of two files, as text: a line for each difference,
-/// and one for the counts.
+/// Appends the differences between the columns of two files as text: a line for each column that
+/// differs, and a line with the counts.
 pub fn push_column_lines(
     out: &mut Vec<u8>,
     files: Files<'_>,

@@ -12,7 +12,7 @@ pub struct Files<'a> {
     pub right: &'a [u8],
 }
 
-/// Returns the name of the file on a side.
+/// Returns the name of the file on this side.
 pub fn file_on<'a>(files: Files<'a>, side: Side) -> &'a [u8]
     ensures { result.now ≡ file_on files.entry side }
 {

@@ -1,4 +1,5 @@
-//! The properties of columns, as a table of words.
+//! Makes a table of the schemas of columns: a row of texts for each column, below a row of
+//! headings.
 
 ghost use Rattle.std.specs.Prelude.{◌≡◌, ◌++◌, ◌∷◌, [], ℕ, List, map, OnOk, IfOk, MatchResult};
 ghost use Rattle.polars_arrays_bits.specs.Errors.{IsMemory};
@@ -15,7 +16,7 @@ use polars_arrays_bits::error::ComputeError;
 use schema_columns::column::ColumnSchema;
 use std::alloc::{AllocError, Global};
 
-/// Appends the headings of a column's name and its kind.
+/// Appends the headings of the column's name and kind.
 fn push_head_names(cells: &mut Strings) -> Result<(), AllocError>
     ensures { OnOk result
         ((all : List (List ℕ)) → AreStrings cells.old all
@@ -26,7 +27,7 @@ fn push_head_names(cells: &mut Strings) -> Result<(), AllocError>
     Ok(())
 }
 
-/// Appends the headings of its counts.
+/// Appends the headings of the counts.
 fn push_count_names(cells: &mut Strings) -> Result<(), AllocError>
     ensures { OnOk result
         ((all : List (List ℕ)) → AreStrings cells.old all
@@ -38,7 +39,7 @@ fn push_count_names(cells: &mut Strings) -> Result<(), AllocError>
     Ok(())
 }
 
-/// Appends the headings of its least and its greatest value.
+/// Appends the headings of the least and the greatest value.
 fn push_end_names(cells: &mut Strings) -> Result<(), AllocError>
     ensures { OnOk result
         ((all : List (List ℕ)) → AreStrings cells.old all
@@ -49,7 +50,7 @@ fn push_end_names(cells: &mut Strings) -> Result<(), AllocError>
     Ok(())
 }
 
-/// Appends the headings of all properties.
+/// Appends all headings.
 fn push_header(cells: &mut Strings) -> Result<(), AllocError>
     ensures { OnOk result
         ((all : List (List ℕ)) → AreStrings cells.old all → AreStrings cells.new (all ++ header)) }
@@ -60,7 +61,7 @@ fn push_header(cells: &mut Strings) -> Result<(), AllocError>
     Ok(())
 }
 
-/// Appends a column's name and its kind. The texts are made in `room`.
+/// Appends the name and the kind of a column. `room` is memory that is overwritten.
 fn push_head(
     cells: &mut Strings,
     room: &mut Vec<u8>,
@@ -77,7 +78,7 @@ fn push_head(
     Ok(())
 }
 
-/// Appends a count.
+/// Appends a count, or a hyphen for `None`. `room` is memory that is overwritten.
 fn push_one_count(
     cells: &mut Strings,
     room: &mut Vec<u8>,
@@ -93,7 +94,8 @@ fn push_one_count(
     Ok(())
 }
 
-/// Appends the numbers of a column's null cells, missing cells and different values.
+/// Appends the numbers of null cells, missing cells and different values. `room` is memory that is
+/// overwritten.
 fn push_counts(
     cells: &mut Strings,
     room: &mut Vec<u8>,
@@ -109,7 +111,7 @@ fn push_counts(
     Ok(())
 }
 
-/// Appends the least and the greatest value of a column.
+/// Appends the least and the greatest value. `room` is memory that is overwritten.
 fn push_ends(
     cells: &mut Strings,
     room: &mut Vec<u8>,
@@ -128,7 +130,7 @@ fn push_ends(
     Ok(())
 }
 
-/// Appends the properties of a column.
+/// Appends the row of a column. `room` is memory that is overwritten.
 fn push_row(
     cells: &mut Strings,
     room: &mut Vec<u8>,
@@ -144,10 +146,11 @@ fn push_row(
     Ok(())
 }
 
-/// The number of words in a row.
+/// The number of texts in a row.
 const WIDTH: usize = 7;
 
-/// Returns the properties of columns, below their headings. The only error is `Memory`.
+/// Returns a table of the schemas of `columns`, below a row of headings. The only error is
+/// `Memory`.
 pub(crate) fn grid_of(alloc: Global, columns: &[ColumnSchema]) -> Result<Table, ComputeError>
     ensures width { MatchResult result (λ grid. grid.width ≡ 7) IsMemory }
     ensures rows { IfOk result (λ grid. grid.rows ≡ header ∷ map row_of columns.now) }

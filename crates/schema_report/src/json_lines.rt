@@ -1,4 +1,4 @@
-//! Columns as JSON lines.
+//! Writes the schemas of columns as JSON lines.
 
 ghost use Rattle.std.specs.Fmt.{decimal};
 ghost use Rattle.std.specs.Option.{option_map};
@@ -13,7 +13,7 @@ use diff_words::decimals::push_decimal;
 use schema_columns::column::ColumnSchema;
 use std::alloc::AllocError;
 
-/// Appends the text before a count, and the count.
+/// Appends `before`, and then `n` in decimal. `before` is usually a comma and the name of a member.
 pub fn push_number(out: &mut Vec<u8>, before: &[u8], n: usize) -> Result<(), AllocError>
     ensures { OnOk result (out.new.items ≡ out.old.items ++ before.now ++ decimal n) }
 {
@@ -22,7 +22,7 @@ pub fn push_number(out: &mut Vec<u8>, before: &[u8], n: usize) -> Result<(), All
     Ok(())
 }
 
-/// Appends the text before a count, and the count, or `null` where there is none.
+/// Appends `before`, and then the count in decimal, or `null` for `None`.
 pub fn push_count(out: &mut Vec<u8>, before: &[u8], count: Option<usize>) -> Result<(), AllocError>
     ensures { OnOk result (out.new.items ≡ out.old.items ++ before.now ++ count_member count) }
 {
@@ -36,7 +36,7 @@ pub fn push_count(out: &mut Vec<u8>, before: &[u8], count: Option<usize>) -> Res
     }
 }
 
-/// Appends the text before a value, and the value as a string, or `null` where there is none.
+/// Appends `before`, and then the value as a JSON string, or `null` for `None`.
 pub fn push_value(
     out: &mut Vec<u8>,
     before: &[u8],
@@ -56,7 +56,7 @@ pub fn push_value(
     }
 }
 
-/// Appends the members with a column's name and its kind.
+/// Appends the beginning of an object, with the name and the kind of a column.
 #[tactic(auto, unfolding(crate::specs::JsonLines::head_members))]
 fn push_head(out: &mut Vec<u8>, column: &ColumnSchema) -> Result<(), AllocError>
     ensures { OnOk result (out.new.items ≡ out.old.items ++ head_members column.now) }
@@ -80,7 +80,8 @@ fn push_counts(out: &mut Vec<u8>, column: &ColumnSchema) -> Result<(), AllocErro
     Ok(())
 }
 
-/// Appends the members with its least and its greatest value.
+/// Appends the members with the least and the greatest value, and the end of the object and of the
+/// line.
 #[tactic(auto, unfolding(crate::specs::JsonLines::end_members))]
 fn push_ends(out: &mut Vec<u8>, column: &ColumnSchema) -> Result<(), AllocError>
     ensures { OnOk result (out.new.items ≡ out.old.items ++ end_members column.now) }
@@ -91,7 +92,7 @@ fn push_ends(out: &mut Vec<u8>, column: &ColumnSchema) -> Result<(), AllocError>
     Ok(())
 }
 
-/// Appends a column as an object in a line.
+/// Appends the JSON line of a column.
 fn push_column(out: &mut Vec<u8>, column: &ColumnSchema) -> Result<(), AllocError>
     ensures { OnOk result (out.new.items ≡ out.old.items ++ column_line column.now) }
 {
@@ -101,7 +102,7 @@ fn push_column(out: &mut Vec<u8>, column: &ColumnSchema) -> Result<(), AllocErro
     Ok(())
 }
 
-/// Appends columns as JSON lines, an object for each.
+/// Appends the schemas of columns as JSON lines, one for each column.
 pub fn push_schema_json(out: &mut Vec<u8>, columns: &[ColumnSchema]) -> Result<(), AllocError>
     ensures { OnOk result (out.new.items ≡ out.old.items ++ schema_lines columns.now) }
 {

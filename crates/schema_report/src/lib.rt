@@ -1,5 +1,5 @@
-//! The columns of a table, and the differences between the columns of two tables, as text and as
-//! JSON lines. The differences between any two schemas.
+//! Writes the schemas of columns, and the differences between the columns of two tables, as text
+//! and as JSON lines. Finds the differences between any two schemas.
 #![tactic(auto)]
 
 pub mod aligned;

@@ -1,4 +1,4 @@
-//! Columns as text.
+//! Writes the schemas of columns as text.
 
 ghost use Rattle.std.specs.Prelude.{◌≡◌, ◌++◌, OnOk, IfErr};
 ghost use Rattle.polars_arrays_bits.specs.Errors.{IsMemory};
@@ -13,14 +13,14 @@ use polars_arrays_bits::error::ComputeError;
 use schema_columns::column::ColumnSchema;
 use std::alloc::{AllocError, Global};
 
-/// Returns what stands after the number of rows.
+/// Returns the text after the number of rows, in the singular or the plural.
 fn rows_word(count: usize) -> &'static [u8]
     ensures { result.now ≡ rows_word count }
 {
     if count == 1 { b" row, " } else { b" rows, " }
 }
 
-/// Returns what stands after the number of columns.
+/// Returns the text after the number of columns, in the singular or the plural.
 fn columns_word(count: usize) -> &'static [u8]
     ensures { result.now ≡ columns_word count }
 {
@@ -31,7 +31,7 @@ fn columns_word(count: usize) -> &'static [u8]
     }
 }
 
-/// Appends how many rows and columns a file has.
+/// Appends a line with the name of a file, the number of its rows and the number of its columns.
 #[tactic(auto, unfolding(crate::specs::Text::head_line))]
 fn push_head(out: &mut Vec<u8>, file: &[u8], rows: usize, columns: usize) -> Result<(), AllocError>
     ensures { OnOk result (out.new.items ≡ out.old.items ++ head_line file.now rows columns) }
@@ -45,8 +45,8 @@ fn push_head(out: &mut Vec<u8>, file: &[u8], rows: usize, columns: usize) -> Res
     Ok(())
 }
 
-/// Appends the schemas of the columns of a file with this many rows, in a line each. The only error
-/// is `Memory`.
+/// Appends the schema of a table as text: a first line with counts, and a line for each column.
+/// `file` is the name of its file, and `rows` the number of its rows. The only error is `Memory`.
 pub fn push_schema(
     alloc: Global,
     out: &mut Vec<u8>,

@@ -1,4 +1,4 @@
-//! The words for the kinds, counts and values of columns.
+//! Writes the kinds, counts and values of columns as text.
 
 ghost use Rattle.std.specs.Option.{option_map};
 ghost use Rattle.std.specs.Prelude.{◌≡◌, ◌≤◌, ◌++◌, length, OnOk};
@@ -11,7 +11,7 @@ use diff_words::words::push_word;
 use schema_columns::kind::Kind;
 use std::alloc::AllocError;
 
-/// Returns the words for a kind.
+/// Returns the name of a kind.
 pub(crate) fn kind_word(kind: Kind) -> &'static [u8]
     ensures { result.now ≡ kind_word kind }
 {
@@ -24,7 +24,7 @@ pub(crate) fn kind_word(kind: Kind) -> &'static [u8]
     }
 }
 
-/// Appends the words for a kind.
+/// Appends the name of a kind.
 pub(crate) fn push_kind(out: &mut Vec<u8>, kind: Kind) -> Result<(), AllocError>
     ensures { OnOk result (out.new.items ≡ out.old.items ++ kind_word kind) }
 {
@@ -32,7 +32,7 @@ pub(crate) fn push_kind(out: &mut Vec<u8>, kind: Kind) -> Result<(), AllocError>
     Ok(())
 }
 
-/// Appends a count, or a hyphen where there is none.
+/// Appends a count in decimal, or a hyphen for `None`.
 pub fn push_count(out: &mut Vec<u8>, count: Option<usize>) -> Result<(), AllocError>
     ensures { OnOk result (out.new.items ≡ out.old.items ++ count_text count) }
 {
@@ -45,8 +45,8 @@ pub fn push_count(out: &mut Vec<u8>, count: Option<usize>) -> Result<(), AllocEr
     }
 }
 
-/// Returns the length of the longest front of a byte string that has at most `most` bytes and ends
-/// before the first byte of a character.
+/// Returns the length of the longest prefix of `bytes` with at most `most` bytes that does not end
+/// within a character in UTF-8.
 fn front_len(bytes: &[u8], most: usize) -> usize
     requires { most ≤ length bytes.now }
     ensures value { result ≡ front_len bytes.now most }
@@ -59,10 +59,11 @@ fn front_len(bytes: &[u8], most: usize) -> usize
     len
 }
 
-/// The most bytes of a string that are shown.
+/// The most bytes that are shown of a text value.
 const MOST: usize = 40;
 
-/// Appends a string between quotes, cut off where it is long.
+/// Appends a text value between quotes. Of a value of more than 40 bytes, appends the first 40 or
+/// fewer bytes between quotes, and `..`.
 #[tactic(auto, unfolding(diff_words::specs::Cells::cell_text))]
 fn push_string(out: &mut Vec<u8>, bytes: &[u8]) -> Result<(), AllocError>
     ensures { OnOk result (out.new.items ≡ out.old.items ++ shown_string bytes.now) }
@@ -76,7 +77,8 @@ fn push_string(out: &mut Vec<u8>, bytes: &[u8]) -> Result<(), AllocError>
     Ok(())
 }
 
-/// Appends a value of a kind, or a hyphen where there is none.
+/// Appends a value of a column of this kind, or a hyphen for `None`. Text values are between
+/// quotes.
 pub fn push_value(out: &mut Vec<u8>, kind: Kind, value: &Option<Vec<u8>>) -> Result<(), AllocError>
     ensures { OnOk result
         (out.new.items ≡ out.old.items ++ value_text kind (option_map (λ v. v.items) value.now)) }

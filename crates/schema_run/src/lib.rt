@@ -1,4 +1,4 @@
-//! Schemas of the columns of a CSV text, which is read from a reader.
+//! Reads a CSV text, and writes the schema of its columns.
 #![tactic(auto)]
 
 pub mod read;

@@ -1,4 +1,4 @@
-//! Schemas of the columns of a CSV text.
+//! Reads a CSV text, and makes the schemas of its columns.
 
 ghost use Rattle.std.specs.List.{range_with_len};
 ghost use Rattle.std.specs.Option.{option_copied};
@@ -23,16 +23,16 @@ use schema_columns::column::{ColumnSchema, schema_of};
 use std::alloc::{AllocError, Global};
 use std::io::Read;
 
-/// The schemas of the columns of a table.
+/// The schema of a table: the schemas of its columns.
 #[derive(Drop)]
 pub struct TableSchema {
     /// The number of rows of the table.
     pub rows: usize,
-    /// Its columns, in their order.
+    /// The schemas of the columns, in the order of the columns.
     pub columns: Vec<ColumnSchema>,
 }
 
-/// Returns the numbers of this many columns, from 0 on.
+/// Returns the indices of `count` columns: 0 to `count - 1`.
 fn all_columns(alloc: Global, count: usize) -> Result<Vec<usize>, AllocError>
     ensures { IfOk result (λ columns. columns.items ≡ range_with_len 0 count) }
 {
@@ -43,7 +43,7 @@ fn all_columns(alloc: Global, count: usize) -> Result<Vec<usize>, AllocError>
     Ok(columns)
 }
 
-/// Returns the names of the columns of a text. The one error is `Memory`.
+/// Returns the names of the columns of a text. The only error is `Memory`.
 fn names_in<R: Read + Drop>(alloc: Global, source: &Source<R>) -> Result<BinaryArray<i64>, CsvError>
     ensures { MatchResult result
         (λ names. (options : CsvOptions) (text : List ℕ) (records : List (List (List ℕ)))
@@ -56,7 +56,8 @@ fn names_in<R: Read + Drop>(alloc: Global, source: &Source<R>) -> Result<BinaryA
     }
 }
 
-/// Returns the schema of a column of a table, under this name. The only error is `Memory`.
+/// Returns the schema of a column of a table. `name` is the name of the column. The only error is
+/// `Memory`.
 fn column_schema(
     alloc: Global,
     name: &[u8],
@@ -75,7 +76,8 @@ fn column_schema(
     }
 }
 
-/// Returns the schemas of a table's columns, under these names. The only error is `Memory`.
+/// Returns the schemas of the columns of a table. `names` has the names of the columns. The only
+/// error is `Memory`.
 fn schemas_of(
     alloc: Global,
     names: &BinaryArray<i64>,
@@ -95,8 +97,8 @@ fn schemas_of(
     Ok(columns)
 }
 
-/// Reads a CSV text, and returns the schemas of its columns. A cell that is the word `null` is
-/// null. Fails as `Source` of `diff_csv` does.
+/// Reads a CSV text, and returns the schema of its columns. A cell that equals `null` is null; with
+/// `None` no cell is null. Fails as `Source::open` and `Source::read` of `diff_csv` do.
 pub fn read_schema<R: Read + Drop>(
     alloc: Global,
     input: R,

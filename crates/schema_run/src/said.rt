@@ -1,4 +1,4 @@
-//! Schemas of the columns of a CSV text, printed as text or as JSON lines.
+//! Writes the schema of a CSV text in either form.
 
 ghost use Rattle.std.specs.Option.{option_copied};
 ghost use Rattle.std.specs.Prelude.{◌≡◌, ◌++◌, ℕ, List, Some, IfErr, OnOk};
@@ -14,16 +14,16 @@ use schema_report::text::push_schema;
 use std::alloc::Global;
 use std::io::Read;
 
-/// The form in which schemas are printed.
+/// The form in which a schema is written.
 #[derive(Clone, Copy, Debug, PartialEq, Eq)]
 pub enum Form {
-    /// In aligned lines.
+    /// Lines of text, in aligned columns.
     Text,
-    /// In JSON lines.
+    /// JSON lines, one for each column.
     Json,
 }
 
-/// Appends the schemas of a table's columns, under the name of its file. The only error is
+/// Appends the schema of a table in this form. `file` is the name of its file. The only error is
 /// `Memory`.
 pub fn push_form(
     alloc: Global,
@@ -47,8 +47,9 @@ pub fn push_form(
     }
 }
 
-/// Reads a CSV text, and appends the schemas of its columns, under the name of its file. A cell
-/// that is the word `null` is null. Fails as `Source` of `diff_csv` does.
+/// Reads a CSV text, and appends the schema of its columns in this form. `file` is the name of the
+/// text's file. A cell that equals `null` is null; with `None` no cell is null. Fails as
+/// `Source::open` and `Source::read` of `diff_csv` do.
 pub fn push_schema_of<R: Read + Drop>(
     alloc: Global,
     out: &mut Vec<u8>,

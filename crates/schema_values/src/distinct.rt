@@ -1,4 +1,4 @@
-//! Counts of different byte strings.
+//! Counts different byte strings.
 
 ghost use Rattle.std.specs.Prelude.{◌≡◌, MatchResult};
 ghost use Rattle.std.specs.Str.{bytes_eq};
@@ -12,7 +12,7 @@ use polars_arrays_flat::byte_rows::ByteRows;
 use std::alloc::Global;
 use std::collections::HashMap;
 
-/// Returns how many different strings there are. The one error is `Memory`.
+/// Returns the number of different byte strings. The only error is `Memory`.
 pub fn count_strings(alloc: Global, cells: &BinaryArray<i64>) -> Result<usize, ComputeError>
     ensures { MatchResult result
         (λ count. count ≡ distinct_total bytes_eq (offset_strings (λ x. x) cells.now)) IsMemory }

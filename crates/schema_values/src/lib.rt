@@ -1,5 +1,5 @@
-//! The number of different values, and the least and the greatest of them: for byte strings, and
-//! for numbers as exact decimals. Parts of schemas.
+//! Counts different values, and finds the least and the greatest value, for byte strings and for
+//! numbers. Numbers are compared as exact decimals. Also defines the parts of schemas.
 #![tactic(auto)]
 
 pub mod distinct;

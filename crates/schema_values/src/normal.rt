@@ -1,4 +1,4 @@
-//! The normal texts of numbers.
+//! Converts numbers to their normal texts. All numbers of the same value have the same normal text.
 
 ghost use Rattle.std.specs.List.{All};
 ghost use Rattle.std.specs.Prelude.{◌≡◌, ◌++◌, ◌∷◌, [], ℕ, List, true, Err, OnOk, MatchResult};
@@ -16,7 +16,8 @@ use polars_arrays_bytes::binary::BinaryArray;
 use polars_arrays_flat::byte_rows::ByteRows;
 use std::alloc::Global;
 
-/// Appends the normal text of the number that a cell writes. The text is made in `room`.
+/// Appends the normal text of the number in a cell to `texts`. `room` is memory that is
+/// overwritten. Fails with `WideExponent` if the exponent has more than 30 digits.
 fn push_normal(texts: &mut Strings, room: &mut Vec<u8>, cell: &[u8]) -> Result<(), NumberError>
     requires { is_number cell.now ≡ true }
     ensures ok { OnOk result
@@ -34,8 +35,8 @@ fn push_normal(texts: &mut Strings, room: &mut Vec<u8>, cell: &[u8]) -> Result<(
     Ok(())
 }
 
-/// Returns the normal texts of the numbers that cells write. Fails if a number has a wide exponent,
-/// or if an allocation fails.
+/// Returns the normal text of the number in each cell. Each cell must be a number. Fails with
+/// `WideExponent` if an exponent has more than 30 digits.
 pub(crate) fn normal_texts(alloc: Global, cells: &BinaryArray<i64>) -> Result<Strings, NumberError>
     requires { All IsNumber (offset_strings (λ x. x) cells.now) }
     ensures { MatchResult result (AreNormal (offset_strings (λ x. x) cells.now))

@@ -1,4 +1,5 @@
-//! The number of different numbers, and the least and the greatest of them, as exact decimals.
+//! Counts different numbers, and finds the least and the greatest. Numbers are compared as exact
+//! decimals.
 
 ghost use Rattle.std.specs.List.{All};
 ghost use Rattle.std.specs.Option.{option_map};
@@ -19,7 +20,8 @@ use polars_arrays_bytes::binary::BinaryArray;
 use polars_arrays_flat::byte_rows::ByteRows;
 use std::alloc::{AllocError, Global};
 
-/// The number of different values, and the least and the greatest of them, where they are known.
+/// The number of different values, and the least and the greatest of them. A field is `None` if it
+/// is not known, or if there are no values.
 #[derive(Drop)]
 pub struct Values {
     pub distinct: Option<usize>,
@@ -27,7 +29,8 @@ pub struct Values {
     pub greatest: Option<Vec<u8>>,
 }
 
-/// Returns the first text of the least number, or of the greatest one, or `None` without numbers.
+/// Returns the least number, or the greatest if `greatest` is set, in the spelling that comes
+/// first. Returns `None` if there are no numbers.
 fn best_text(
     alloc: Global,
     cells: &BinaryArray<i64>,
@@ -46,7 +49,8 @@ fn best_text(
     Ok(Some(text))
 }
 
-/// Returns the summary of numbers that have these normal texts.
+/// Returns the number of different numbers, and the least and the greatest of them. `texts` has the
+/// normal text of each cell. The only error is `Memory`.
 fn exact_values(
     alloc: Global,
     cells: &BinaryArray<i64>,
@@ -68,9 +72,9 @@ fn exact_values(
     })
 }
 
-/// Returns the number of different numbers in cells that JSON would accept as numbers, and the
-/// first texts of the least and of the greatest. Each is `None` if a number has an exponent of more
-/// than 30 digits, not counting its leading zeros. The only error is `Memory`.
+/// Returns the number of different numbers, and the least and the greatest in the spelling that
+/// comes first. Each cell must be a number in JSON syntax. All fields are `None` if a number has an
+/// exponent of more than 30 digits, leading zeros not counted. The only error is `Memory`.
 pub fn number_values(alloc: Global, cells: &BinaryArray<i64>) -> Result<Values, ComputeError>
     requires { All IsNumber (offset_strings (λ x. x) cells.now) }
     ensures { MatchResult result

@@ -1,20 +1,20 @@
-//! Parts of schemas.
+//! A trait for the parts of schemas.
 
 ghost use Rattle.std.specs.Prelude.{◌≡◌, ℕ, Bool, List};
 
-/// A part of a schema that has a name: a column of a table, or a path of documents.
+/// A part of a schema: a column of a table, or a path of documents. It has a name.
 pub trait SchemaPart {
-    // Its name.
+    // The name of the part.
     ghost name_of: { Self → List ℕ };
 
-    // The values of two parts are of the same kinds.
+    // Says whether the values of two parts have the same kinds.
     ghost same_kinds: { Self → Self → Bool };
 
-    /// Returns its name.
+    /// Returns the name of the part.
     fn name(&self) -> &[u8]
         ensures { result.now ≡ name_of self.now };
 
-    /// Returns whether its values are of the same kinds as those of another part.
+    /// Returns whether the values of this part and of `other` have the same kinds.
     fn has_kinds_of(&self, other: &Self) -> bool
         ensures { result ≡ same_kinds self.now other.now };
 }

@@ -1,4 +1,4 @@
-//! The places of the least and of the greatest number.
+//! Finds the least and the greatest number.
 
 ghost use Rattle.std.specs.List.{All};
 ghost use Rattle.std.specs.Prelude.{◌≡◌, ◌<◌, false, length, get_or, [], if◌then◌else◌};
@@ -10,7 +10,7 @@ use json_tolerances::order::is_less;
 use polars_arrays_bytes::binary::BinaryArray;
 use polars_arrays_flat::byte_rows::ByteRows;
 
-/// Returns whether a number is less than another.
+/// Returns whether the number `left` is less than the number `right`.
 fn is_number_less(left: &[u8], right: &[u8]) -> bool
     requires left { IsNarrow left.now }
     requires right { IsNarrow right.now }
@@ -28,7 +28,7 @@ fn is_number_less(left: &[u8], right: &[u8]) -> bool
     }
 }
 
-/// Returns whether a number is less than another one, or greater than it if `greatest` is set.
+/// Returns whether the number `left` is less than `right`, or greater if `greatest` is set.
 fn is_better(greatest: bool, left: &[u8], right: &[u8]) -> bool
     requires left { IsNarrow left.now }
     requires right { IsNarrow right.now }
@@ -41,7 +41,8 @@ fn is_better(greatest: bool, left: &[u8], right: &[u8]) -> bool
     }
 }
 
-/// Returns the better of two places.
+/// Returns `other` if the number in that cell is better than the one in cell `best` (see
+/// `is_better`), and else `best`.
 fn better_place(cells: &BinaryArray<i64>, greatest: bool, best: usize, other: usize) -> usize
     requires all { All IsNarrow (offset_strings (λ x. x) cells.now) }
     requires best { best < length (offset_strings (λ x. x) cells.now) }
@@ -57,7 +58,8 @@ fn better_place(cells: &BinaryArray<i64>, greatest: bool, best: usize, other: us
     }
 }
 
-/// Returns the place of the first of the least numbers, or of the greatest if `greatest` is set.
+/// Returns the index of the least number, or of the greatest if `greatest` is set. If several cells
+/// have this value, returns the first of them.
 pub(crate) fn best_place(cells: &BinaryArray<i64>, greatest: bool) -> usize
     requires all { All IsNarrow (offset_strings (λ x. x) cells.now) }
     requires some { 0 < length (offset_strings (λ x. x) cells.now) }
