@@ -34,7 +34,7 @@ pub struct Sheet<'a> {
 
 /// Reads the JSON lines of a report. Appends the texts before the table to `head`, the rows of the
 /// table to `rows`, and the texts after the table to `tail`. Fails with `NoReport` if one of
-/// `lines` is no line of a report.
+/// `lines` is not a line of a report.
 fn push_lines(
     alloc: Global,
     head: &mut Vec<u8>,
@@ -62,7 +62,7 @@ fn push_lines(
 
 /// Splits `text` into the JSON lines of a report. Appends the texts before the table to `head`, the
 /// rows of the table to `rows`, and the texts after the table to `tail`. Fails with `NoReport` if a
-/// line of `text` is no line of a report.
+/// line of `text` is not a line of a report.
 fn push_text(
     alloc: Global,
     head: &mut Vec<u8>,

@@ -45,7 +45,8 @@ fn push_name_word(alloc: Global, words: &mut Vec<Vec<char>>, name: &str) -> Resu
     Ok(())
 }
 
-/// Appends one word: the number that the member `name` of `counts` has, and then `counted`.
+/// Appends one word, such as `3 changed,`: the number that the member `name` of `counts` has, and
+/// then `counted`.
 fn push_count(
     alloc: Global,
     words: &mut Vec<Vec<char>>,
@@ -84,7 +85,7 @@ fn push_hidden_words(
     Ok(())
 }
 
-/// Appends the numbers of changed, removed, added and equal rows, each as one word.
+/// Appends four words, such as `3 changed,`: the numbers of changed, removed, added and equal rows.
 #[tactic(auto, unfolding(crate::specs::Counts::kind_words))]
 fn push_kind_words(
     alloc: Global,
@@ -156,7 +157,7 @@ fn push_columns(
 }
 
 /// Appends the number of differing cells for each column in the member `columns` of `counts`.
-/// Appends nothing if this member is no object or is empty.
+/// Appends nothing if this member is not an object or is empty.
 fn push_column_words(
     alloc: Global,
     words: &mut Vec<Vec<char>>,
@@ -189,7 +190,7 @@ fn push_skipped_counts(
 }
 
 /// Appends the number of skipped lines of each file. Appends nothing if the member `left_skipped`
-/// of `counts` is no number.
+/// of `counts` is not a number.
 #[tactic(auto, unfolding(crate::specs::Counts::skipped_words))]
 fn push_skipped_words(
     alloc: Global,

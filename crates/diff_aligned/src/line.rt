@@ -46,10 +46,10 @@ fn push_by_kind(
 
 /// Reads a JSON line of a report and appends its output: texts before the table to `head`, rows of
 /// the table to `rows`, texts after the table to `tail`. `scratch` is the memory of the JSON
-/// reader, which all lines share.
+/// reader, which is reused for each line.
 ///
-/// Fails with `NoReport` only if `line` is no line of a report. After an error a part of the output
-/// may be appended.
+/// Fails with `NoReport` only if `line` is not a line of a report. After an error a part of the
+/// output may be appended.
 pub(crate) fn push_line(
     alloc: Global,
     head: &mut Vec<u8>,

@@ -18,13 +18,14 @@ use std::mem;
 /// The kind of a row of the table, which is shown at its beginning.
 #[derive(Clone, Copy)]
 pub(crate) enum Mark {
-    /// The first differing cell or path of a changed row. It is shown with the key.
+    /// The first differing cell or path of a changed row. It is shown with the mark `~` and the
+    /// key.
     Changed,
-    /// A further differing cell or path of a changed row. The key is left empty.
+    /// A further differing cell or path of the same changed row. It is shown without mark and key.
     Again,
-    /// A row that only the left file has.
+    /// A row that only the left file has. It is shown with the mark `-`.
     Removed,
-    /// A row that only the right file has.
+    /// A row that only the right file has. It is shown with the mark `+`.
     Added,
 }
 
@@ -123,7 +124,7 @@ fn push_item_rows(
 }
 
 /// Appends the rows of the table for a changed row whose `changes` are an object by columns.
-/// Appends nothing if `changes` is no object.
+/// Appends nothing if `changes` is not an object.
 fn push_rows_in_object(
     alloc: Global,
     rows: &mut Vec<Row>,
@@ -144,7 +145,7 @@ fn push_rows_in_object(
 }
 
 /// Appends the rows of the table for a changed row whose `changes` are an array of paths. Appends
-/// nothing if `changes` is no array.
+/// nothing if `changes` is not an array.
 fn push_rows_in_array(
     alloc: Global,
     rows: &mut Vec<Row>,

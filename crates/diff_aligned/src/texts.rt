@@ -124,7 +124,7 @@ fn push_pairs(
 }
 
 /// Appends the members of the object that is the member `name` of `value`. Appends nothing if this
-/// member is no object.
+/// member is not an object.
 #[tactic(auto, unfolding(crate::specs::Texts::pairs_text))]
 pub(crate) fn push_pairs_of(
     alloc: Global,
@@ -143,7 +143,7 @@ pub(crate) fn push_pairs_of(
 }
 
 /// Appends the number that is the member `name` of `value`, with its digits unchanged. Appends
-/// nothing if this member is no number.
+/// nothing if this member is not a number.
 #[tactic(auto, unfolding(crate::specs::Texts::number_text))]
 pub(crate) fn push_number(
     out: &mut Vec<char>,

@@ -14,7 +14,7 @@ fn is_known<L: ByteRows, R: ByteRows>(left: &L, right: &R, name: &[u8]) -> bool
 }
 
 /// Returns the index of the first of `names` that is a column of neither table, or `None` if each
-/// is a column. `left` and `right` have the names of the columns as their strings.
+/// is a column. `left` and `right` are arrays with the names of the columns.
 pub fn name_unknown<L: ByteRows, R: ByteRows>(left: &L, right: &R, names: &[&[u8]]) -> Option<usize>
     ensures { MatchOption result
         (All (IsKnown (L.strings left.now) (R.strings right.now)) (names_of names.now))

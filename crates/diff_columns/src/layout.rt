@@ -14,8 +14,9 @@ use crate::places::key_places;
 use polars_arrays_flat::byte_rows::ByteRows;
 use std::alloc::{AllocError, Global};
 
-/// The result of matching the columns of two tables by name. Columns are given as indices. Column
-/// `left[k]` of the left table is compared with column `right[k]` of the right one.
+/// The result of matching the columns of two tables by name. Columns are given as indices.
+/// For the left columns `id`, `a`, `b`, the right columns `b`, `id`, `c` and the key `id`, `left`
+/// is [0, 2], `right` is [1, 0], `keys` is [0], `left_alone` is [1], and `right_alone` is [2].
 #[derive(Drop)]
 pub struct Layout {
     /// The left columns that are compared, in ascending order.
@@ -86,8 +87,8 @@ fn layout_of<L: ByteRows, R: ByteRows>(
     })
 }
 
-/// Matches the columns of two tables by name. `left` and `right` have the names of the columns as
-/// their strings.
+/// Matches the columns of two tables by name. `left` and `right` are arrays with the names of the
+/// columns.
 ///
 /// Fails with `NameTwice` if a table has two columns of the same name, with `NoKey` if a table has
 /// no column for a key, and with `Memory` if an allocation fails.

@@ -17,7 +17,7 @@ use std::alloc::Global;
 use std::io::Read;
 use std::mem;
 
-/// The place of the next row.
+/// The source of the next row of a `RowReader`.
 #[derive(Clone, Copy)]
 pub(crate) enum Ahead {
     /// The next row is the first record, which is stored in `RowReader::first`.
@@ -135,8 +135,8 @@ impl<R: Read + Drop> RowReader<R> {
     /// are no more rows.
     ///
     /// Fails with `Length` if the row has not as many fields as the first record, and with
-    /// `OpenQuote` if the text ends within quotes. Never fails with `Delimiter`. No rows can be
-    /// read after an error.
+    /// `OpenQuote` if the text ends within quotes. Never fails with `Delimiter`. After an error the
+    /// results of further calls are not specified.
     pub fn read(&mut self, row: &mut Box<ByteRecord>) -> Result<Option<u64>, CsvError>
         ensures told { MatchResult result
             (λ line. (options : CsvOptions) (text : List ℕ) (rows : List (List (List ℕ)))

@@ -21,6 +21,7 @@ pub(crate) struct Rows {
     pub(crate) cells: Strings,
     pub(crate) lines: Vec<u64>,
     // If only the rows of a part are read: the number of each row in the text. The first row is 1.
+    // Else empty.
     pub(crate) numbers: Vec<u64>,
 }
 
@@ -34,7 +35,7 @@ fn cell(row: &ByteRecord, column: usize) -> &[u8]
     }
 }
 
-/// The cells of a record in the chosen columns. It is a list of strings.
+/// The cells of a record in the chosen columns, as a list of strings.
 #[derive(Clone, Copy)]
 struct Cells<'a> {
     row: &'a ByteRecord,

@@ -12,6 +12,8 @@ use std::alloc::{AllocError, Global};
 
 /// The result of matching two tables. Row `left_rows[k]` of the left table and row `right_rows[k]`
 /// of the right table are partners. Rows are numbered from 0.
+/// For the left keys `a`, `b`, `a` and the right keys `a`, `c`, `a`, `a`, `left_rows` and
+/// `right_rows` are [0, 2], `removed` is [1], and `added` is [1, 3].
 #[derive(Drop)]
 pub struct Matching {
     /// The left rows that have a partner, in ascending order.
@@ -52,8 +54,8 @@ fn match_few<L: ByteRows, R: ByteRows>(
     })
 }
 
-/// Matches the rows of two tables by their keys. `left` and `right` have the keys of all rows as
-/// their strings.
+/// Matches the rows of two tables by their keys. `left` and `right` are arrays with the key of each
+/// row.
 ///
 /// Fails with `TooManyRows` if a table has more than 2^32 rows, and with `Memory` if an allocation
 /// fails.

@@ -11,8 +11,8 @@ use crate::waiting::{Waiting, all_waiting, class_of};
 use polars_arrays_flat::byte_rows::ByteRows;
 use std::alloc::{AllocError, Global};
 
-/// Returns the hash class of the key of each left row in `start..end`. `count` is the number of
-/// classes.
+/// Returns the class (`class_of`) of the key of each left row in `start..end`. `count` is the
+/// number of classes.
 fn classes_for<L: ByteRows>(
     alloc: Global,
     left: &L,
@@ -33,7 +33,8 @@ fn classes_for<L: ByteRows>(
     Ok(classes)
 }
 
-/// Returns for each of `classes` its first waiting row, or `None` if no row of the class waits.
+/// Returns for each of `classes` the first right row in this class that still has no partner, or
+/// `None`.
 fn heads_of(
     alloc: Global,
     classes: &[usize],

@@ -1,4 +1,4 @@
-//! Reads reports in JSON lines, for the programs that convert reports to other formats.
+//! Reads reports in JSON lines, for the crates that convert reports to other formats.
 #![tactic(auto)]
 
 pub mod error;

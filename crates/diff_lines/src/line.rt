@@ -10,8 +10,8 @@ use crate::parts::string_at;
 use json::{Error, Reader, Scratch, Value};
 use std::alloc::Global;
 
-/// The greatest nesting depth of a line. It is greater than that of documents, since a line can
-/// contain parts of documents.
+/// The greatest nesting depth of a line. It is greater than 128, the greatest depth of a document,
+/// since a line can contain parts of documents.
 const MOST_DEPTH: usize = 256;
 
 /// The kind of a line of a report, given by its member `kind`.

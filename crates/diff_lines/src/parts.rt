@@ -8,8 +8,8 @@ ghost use Rattle.diff_lines.specs.Parts.{number_at, string_at};
 
 use json::Value;
 
-/// Returns the value of the member `name`, or `None` if `value` is no object with this member. If
-/// several members have this name, the last one counts.
+/// Returns the value of the member `name`, or `None` if `value` is not an object with this member.
+/// If several members have this name, the last one counts.
 pub fn part_of<'v, 'a>(value: &'v Value<'a>, name: &str) -> Option<&'v Value<'a>>
     requires { HasNumbers (value_view value.now) }
     ensures found { option_map (λ v. value_view v.now) result

@@ -147,7 +147,7 @@ fn push_pairs(
 }
 
 /// Appends the members of the object that is the member `name` of `value`, each in a code span.
-/// Appends nothing if this member is no object.
+/// Appends nothing if this member is not an object.
 #[tactic(auto, unfolding(crate::specs::Cells::pairs_cell))]
 pub(crate) fn push_pairs_cell(
     alloc: Global,
@@ -166,7 +166,7 @@ pub(crate) fn push_pairs_cell(
 }
 
 /// Appends the number that is the member `name` of `value`, with its digits unchanged. Appends
-/// nothing if this member is no number.
+/// nothing if this member is not a number.
 pub(crate) fn push_number(
     out: &mut Vec<u8>,
     value: &Value<'_>,

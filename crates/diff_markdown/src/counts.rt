@@ -44,7 +44,7 @@ fn push_columns(out: &mut Vec<u8>, pairs: &[u8]) -> Result<(), AllocError>
 }
 
 /// Appends the number of skipped lines of each file. Appends nothing if the member `left_skipped`
-/// of `counts` is no number.
+/// of `counts` is not a number.
 #[tactic(auto, unfolding(crate::specs::Counts::skipped_note))]
 fn push_skipped(out: &mut Vec<u8>, counts: &Value<'_>) -> Result<(), AllocError>
     ensures { OnOk result (out.new.items ≡ out.old.items ++ skipped_note (value_view counts.now)) }

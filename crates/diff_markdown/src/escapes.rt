@@ -65,8 +65,8 @@ fn byte_at(bytes: &[u8], i: usize) -> u8
     if i < bytes.len() { bytes[i] } else { 0 }
 }
 
-/// Appends a text without backquotes, bars and control characters above U+007E: these become JSON
-/// escapes.
+/// Appends a text, with backquotes, bars and the control characters from U+007F to U+009F written
+/// as JSON escapes. So the text can't end its code span or its table cell.
 pub(crate) fn push_safe(out: &mut Vec<u8>, text: &[u8]) -> Result<(), AllocError>
     ensures { OnOk result (out.new.items ≡ out.old.items ++ safe text.now) }
 {

@@ -38,9 +38,9 @@ fn push_by_kind(
 }
 
 /// Reads a JSON line of a report and appends its Markdown: counts to `head`, table rows to `rows`.
-/// `scratch` is the memory of the JSON reader, which all lines share.
+/// `scratch` is the memory of the JSON reader, which is reused for each line.
 ///
-/// Fails with `NoReport` only if `line` is no line of a report. After an error a part of the
+/// Fails with `NoReport` only if `line` is not a line of a report. After an error a part of the
 /// Markdown may be appended.
 pub(crate) fn push_line(
     alloc: Global,

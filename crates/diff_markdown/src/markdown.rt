@@ -14,7 +14,7 @@ use std::alloc::{AllocError, Global};
 use std::str::from_utf8;
 
 /// Reads the JSON lines of a report. Appends the counts to `head` and the table rows to `rows`.
-/// Fails with `NoReport` if one of `lines` is no line of a report.
+/// Fails with `NoReport` if one of `lines` is not a line of a report.
 fn push_lines(
     alloc: Global,
     head: &mut Vec<u8>,
@@ -37,7 +37,7 @@ fn push_lines(
 }
 
 /// Splits `text` into the JSON lines of a report. Appends the counts to `head` and the table rows
-/// to `rows`. Fails with `NoReport` if a line of `text` is no line of a report.
+/// to `rows`. Fails with `NoReport` if a line of `text` is not a line of a report.
 fn push_text(
     alloc: Global,
     head: &mut Vec<u8>,

@@ -113,7 +113,7 @@ pub(crate) fn push_changed(
 }
 
 /// Appends the table rows of a changed row whose `changes` are an object by columns. Appends
-/// nothing if `changes` is no object.
+/// nothing if `changes` is not an object.
 fn push_changes_in_object(
     alloc: Global,
     out: &mut Vec<u8>,
@@ -131,7 +131,7 @@ fn push_changes_in_object(
 }
 
 /// Appends the table rows of a changed row whose `changes` are an array of paths. Appends nothing
-/// if `changes` is no array.
+/// if `changes` is not an array.
 fn push_changes_in_array(
     alloc: Global,
     out: &mut Vec<u8>,

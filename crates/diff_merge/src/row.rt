@@ -7,8 +7,7 @@ ghost use Rattle.diff_merge.specs.Rows.{cells_of};
 use csv::ByteRecord;
 use diff_tables::string_list::StringList;
 
-/// A row of a text, with its cells in the columns that are read. It is a list of strings: its
-/// cells.
+/// A row of a text, as a list of its cells in the columns that are read.
 #[derive(Clone, Copy)]
 pub struct Row<'a> {
     pub(crate) record: &'a ByteRecord,

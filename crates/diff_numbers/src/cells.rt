@@ -1,4 +1,5 @@
-//! Converts cells to the texts by which they are compared.
+//! Converts cells to the texts by which they are compared. A number becomes its normal text, which
+//! all numbers of the same value share: `15e-1` for 1.5 and 1.50.
 
 ghost use Rattle.std.specs.Prelude.{◌≡◌, ◌++◌, ◌∷◌, [], ℕ, List, true, false, Err, MatchOption};
 ghost use Rattle.std.specs.Prelude.{OnOk};

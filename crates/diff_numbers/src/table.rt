@@ -31,8 +31,9 @@ fn comparable_cells(
     Ok(cells)
 }
 
-/// Returns a table with the comparable text of each cell of `table`. `numeric` has for each column
-/// whether its numbers are compared by value.
+/// Returns a table with the comparable text of each cell of `table`: `15e-1` for 1.5 and 1.50.
+/// `numeric` has for each column whether its numbers are compared by value. Cells of other columns
+/// and cells that are not numbers are unchanged.
 ///
 /// Fails with `WideExponent` if a number in such a column has an exponent of more than 30 digits,
 /// and with `Memory` if an allocation fails.

@@ -14,8 +14,9 @@ use diff_words::words::push_word;
 use polars_arrays_flat::byte_rows::ByteRows;
 use std::alloc::AllocError;
 
-/// Returns whether left row `i` and right row `j` differ in a column. The comparable cells decide
-/// (`Sides::compared_left`, `Sides::compared_right`).
+/// Returns whether left row `i` and right row `j` differ in a column of the tables that are
+/// compared (`Sides::compared_left`, `Sides::compared_right`). If numbers are compared by value,
+/// 1.5 and 1.50 do not differ.
 pub(crate) fn differ_at(sides: &Sides, i: usize, j: usize, column: usize) -> bool
     requires sides { AreSides sides.now }
     requires left { i < length sides.now.left.table.rows }

@@ -36,7 +36,8 @@ impl Side {
     }
 }
 
-/// Two tables to compare in place of two others, row by row and cell by cell.
+/// Two tables to compare in place of two others. Each cell replaces the cell in the same row and
+/// column.
 #[derive(Drop)]
 pub struct Comparables {
     pub left: Table,

@@ -44,7 +44,8 @@ pub enum ChoiceError {
     /// `list`.
     #[error("neither table has a column for name {name} of the {list}")]
     NoColumn { list: NameList, name: usize },
-    /// No column is compared, and no column of one table is reported.
+    /// Nothing remains to compare or report: no column, or with the option `common` only key
+    /// columns.
     #[error("no column is left to compare")]
     NothingLeft,
 }

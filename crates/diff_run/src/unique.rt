@@ -42,8 +42,9 @@ fn test_side(
     }
 }
 
-/// Checks on both sides that no two rows have the same key, if the option `unique` is set. Keys are
-/// taken from the tables that are compared, so numbers may count by value.
+/// Checks on both sides that no two rows have the same key, if the option `unique` is set. The keys
+/// are those of the tables that are compared: if numbers are compared by value, 1.5 and 1.50 are
+/// the same key.
 pub(crate) fn test_keys(alloc: Global, sides: &Sides, options: &Options<'_>) -> Result<(), RunError>
     requires { AreSides sides.now }
     ensures { MatchResult result

@@ -18,7 +18,7 @@ use diff_tables::string_list::StringList;
 use std::alloc::{AllocError, Global};
 
 /// Appends the line of two matched rows that differ. It equals the line that `diff_run` writes for
-/// these rows.
+/// these rows if all cells are compared as texts, without tolerances.
 pub fn push_changed<L: StringList, R: StringList>(
     alloc: Global,
     out: &mut Vec<u8>,

@@ -1,4 +1,5 @@
-//! Compares strings by their lengths and bytes, without looking at each string alone.
+//! Finds the pairs of rows that may differ. The lengths of all strings of two rows are compared,
+//! and then all their bytes at once. Most pairs of rows are equal, and need no other comparison.
 
 ghost use Rattle.std.specs.Prelude.{◌≡◌, ◌+◌, ◌<◌, ◌≤◌, true, length, IfOk, OnOk};
 ghost use Rattle.polars_arrays_bytes.specs.OffsetStrings.{offset_strings};

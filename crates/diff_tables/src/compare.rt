@@ -51,7 +51,7 @@ fn changed_rows(
     rows::changed_rows(alloc, left.lent(), left_rows, right.lent(), right_rows)
 }
 
-/// Returns the elements of `numbers` at these indices.
+/// Returns the elements of `numbers` at the indices `places`.
 fn numbers_at(alloc: Global, numbers: &[u32], places: &[usize]) -> Result<Vec<u32>, AllocError>
     requires { ArePlaces (length numbers.now) places.now }
     ensures { IfOk result (λ picked. picked.items ≡ map (slice_index numbers.now) places.now) }
@@ -63,7 +63,7 @@ fn numbers_at(alloc: Global, numbers: &[u32], places: &[usize]) -> Result<Vec<u3
     Ok(picked)
 }
 
-/// Returns the elements of `all` at these indices.
+/// Returns the elements of `all` at the indices `places`.
 fn places_at(alloc: Global, all: &[usize], places: &[usize]) -> Result<Vec<usize>, AllocError>
     requires { ArePlaces (length all.now) places.now }
     ensures { IfOk result (λ picked. picked.items ≡ map (slice_index all.now) places.now) }

@@ -16,7 +16,8 @@ use polars_arrays_bytes::binary::BinaryArray;
 use std::alloc::{AllocError, Global};
 
 /// A growable list of byte strings, stored as offsets and bytes. String `k` is the bytes from
-/// offset `k` to offset `k + 1`. An offset takes 4 bytes if it is below 2^31, and else 8 bytes.
+/// offset `k` to offset `k + 1`: the strings `ab` and `c` have the offsets 0, 2, 3 and the bytes
+/// `abc`. An offset takes 4 bytes if it is below 2^31, and else 8 bytes.
 #[derive(Drop)]
 pub struct Strings {
     // The offset 0, and then the end of each of the first strings, while the ends fit into 32 bits.

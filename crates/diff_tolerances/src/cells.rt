@@ -47,7 +47,7 @@ fn is_within(margin: &Margin, left: &str, right: &str) -> bool
 }
 
 /// Returns whether two cells are numbers that differ by no more than the margin allows. Returns
-/// `false` if a cell is no number, or a number with an exponent of more than 30 digits.
+/// `false` if a cell is not a number, or a number with an exponent of more than 30 digits.
 fn are_close(margin: &Margin, left: &[u8], right: &[u8]) -> bool
     ensures { result ≡ are_close margin.now left.now right.now }
 {

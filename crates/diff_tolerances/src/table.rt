@@ -53,8 +53,9 @@ fn tolerant_cells(
 }
 
 /// Returns the table to compare in place of the right table. A cell is replaced by the cell of its
-/// left partner if one of the tolerances allows the two to differ. All other cells are unchanged.
-/// Rows are matched by their cells in `columns`.
+/// left partner if one of the tolerances allows the two to differ: with a tolerance of 0.1, 1.05 is
+/// replaced by its partner 1.0. All other cells are unchanged. `columns` are the key columns, by
+/// which rows are matched.
 ///
 /// Fails with `TooManyRows` if a table has more than 2^32 rows, and with `Memory` if an allocation
 /// fails.

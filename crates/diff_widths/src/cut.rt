@@ -82,7 +82,7 @@ fn push_shortened(out: &mut Vec<char>, text: &[char], room: usize) -> Result<(),
 }
 
 /// Appends `text` unchanged if it is at most `room` columns wide, and else cut in its middle to
-/// that width.
+/// that width. `abcdefgh` cut to 5 columns is `ab…gh`.
 #[tactic(auto, unfolding(crate::specs::Cut::cut))]
 pub fn push_cut(out: &mut Vec<char>, text: &[char], room: usize) -> Result<(), AllocError>
     ensures { OnOk result (out.new.items ≡ out.old.items ++ cut room text.now) }

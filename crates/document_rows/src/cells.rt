@@ -27,7 +27,7 @@ use json::{Scratch, Value};
 use json_paths::path::Path;
 use std::alloc::{AllocError, Global};
 
-/// Memory for parsing a document, which all documents share.
+/// Memory for parsing a document. It is reused for each document.
 #[derive(Drop)]
 pub(crate) struct Rooms {
     scratch: Box<Scratch>,
@@ -84,7 +84,7 @@ fn push_parts(
 }
 
 impl Rooms {
-    /// Allocates the memory.
+    /// Creates empty buffers.
     pub(crate) fn new(alloc: Global) -> Result<Rooms, AllocError> {
         let scratch = Box::new(alloc, Scratch::new(alloc))?;
         let number = Vec::new(alloc);

@@ -17,7 +17,7 @@ use json_changes::changes::{Rules, are_same_under};
 use json_decimals::error::NumberError;
 use std::alloc::{AllocError, Global};
 
-/// Memory for parsing two documents, which all pairs share.
+/// Memory for parsing two documents. It is reused for each pair of documents.
 #[derive(Drop)]
 struct Scratches {
     left: Scratch,
@@ -25,7 +25,7 @@ struct Scratches {
 }
 
 impl Scratches {
-    /// Allocates the memory.
+    /// Creates empty buffers.
     fn new(alloc: Global) -> Result<Box<Scratches>, AllocError> {
         let left = Scratch::new(alloc);
         let right = Scratch::new(alloc);

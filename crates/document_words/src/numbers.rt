@@ -103,7 +103,8 @@ fn push_plain_digits(out: &mut Vec<u8>, digits: &[u8], tens: ShortTens) -> Resul
 }
 
 /// Appends the value of a key. `text` is its normal text. A number is written without an exponent,
-/// unless that of its normal text is above 20 or below -20.
+/// unless that of its normal text is above 20 or below -20: `12e2` becomes `1200`, and `15e-1`
+/// becomes `1.5`.
 #[tactic(auto, unfolding(crate::specs::Numbers::value_text))]
 pub fn push_value(out: &mut Vec<u8>, text: &[u8]) -> Result<(), AllocError>
     ensures { OnOk result (out.new.items ≡ out.old.items ++ value_text text.now) }

@@ -15,7 +15,7 @@ use schema_report::changes::{ChangeForm, counts_of, push_changes};
 use schema_report::changes_json::push_counts_members;
 use std::alloc::AllocError;
 
-/// The form of differences as JSON lines.
+/// The `ChangeForm` that writes differences between paths as JSON lines.
 #[derive(Clone, Copy)]
 struct PathObjects;
 

@@ -16,7 +16,8 @@ use schema_report::changes_text::push_counts;
 use schema_report::files::{Files, file_on};
 use std::alloc::AllocError;
 
-/// The form of differences as lines of text, with the names of the two files.
+/// The `ChangeForm` that writes differences between paths as lines of text. It has the names of the
+/// two files.
 #[derive(Clone, Copy)]
 struct PathLines<'a> {
     files: Files<'a>,

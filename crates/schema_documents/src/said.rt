@@ -37,8 +37,7 @@ fn push_form(
 }
 
 /// Reads an input with a document on each line, and appends the schema of the documents. `file` is
-/// the name of the input. Fails if `read_document_schema` of `schema_paths` does, or if an
-/// allocation fails.
+/// the name of the input. Fails with the errors of `read_document_schema` of `schema_paths`.
 pub fn push_schema_of<R: Read + Drop>(
     alloc: Global,
     out: &mut Vec<u8>,

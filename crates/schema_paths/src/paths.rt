@@ -40,10 +40,10 @@ pub struct PathSchema {
     /// more than 30 digits.
     pub distinct: Option<usize>,
     /// The least number, in the spelling that comes first in the file. `None` if `distinct` is
-    /// `None` or there is no number.
+    /// `None` or there is not a number.
     pub least: Option<Vec<u8>>,
     /// The greatest number, in the spelling that comes first in the file. `None` if `distinct` is
-    /// `None` or there is no number.
+    /// `None` or there is not a number.
     pub greatest: Option<Vec<u8>>,
 }
 

@@ -8,7 +8,7 @@ ghost use Rattle.schema_report.specs.Aligned.{widest};
 use diff_tables::table::Table;
 use std::alloc::{AllocError, Global};
 
-/// Returns whether a byte begins a character in UTF-8: it is no continuation byte (128 to 191).
+/// Returns whether a byte begins a character in UTF-8: it is not a continuation byte (128 to 191).
 fn begins(byte: u8) -> bool
     ensures { result ≡ begins byte }
 {

@@ -14,7 +14,7 @@ use schema_columns::column::ColumnSchema;
 use schema_columns::kind::Kind;
 use std::alloc::AllocError;
 
-/// The form of differences as JSON lines.
+/// The `ChangeForm` that writes differences between columns as JSON lines.
 #[derive(Clone, Copy)]
 struct ColumnObjects;
 

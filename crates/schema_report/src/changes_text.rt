@@ -14,7 +14,8 @@ use schema_columns::column::ColumnSchema;
 use schema_columns::kind::Kind;
 use std::alloc::AllocError;
 
-/// The form of differences as lines of text, with the names of the two files.
+/// The `ChangeForm` that writes differences between columns as lines of text. It has the names of
+/// the two files.
 #[derive(Clone, Copy)]
 struct ColumnLines<'a> {
     files: Files<'a>,

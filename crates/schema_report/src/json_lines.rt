@@ -13,7 +13,8 @@ use diff_words::decimals::push_decimal;
 use schema_columns::column::ColumnSchema;
 use std::alloc::AllocError;
 
-/// Appends `before`, and then `n` in decimal. `before` is usually a comma and the name of a member.
+/// Appends `before`, and then `n` in decimal. For example, `push_number(out, b",\"null\":", 3)`
+/// appends `,"null":3`.
 pub fn push_number(out: &mut Vec<u8>, before: &[u8], n: usize) -> Result<(), AllocError>
     ensures { OnOk result (out.new.items ≡ out.old.items ++ before.now ++ decimal n) }
 {
