@@ -19,8 +19,12 @@ use std::io::Read;
 
 /// The names of the columns of two inputs, and how the columns are matched.
 pub struct Heads {
+    /// The names of all columns of the left input.
     pub left_names: BinaryArray<i64>,
+    /// The names of all columns of the right input.
     pub right_names: BinaryArray<i64>,
+    /// The columns that are compared, as indices into `left_names` and `right_names`, and those
+    /// that only one input has.
     pub layout: Layout,
 }
 

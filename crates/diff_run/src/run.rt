@@ -19,7 +19,9 @@ use std::io::{Read, Write};
 /// An input, with its name for the report.
 #[derive(Drop)]
 pub struct Input<'a, R> {
+    /// The name of the input in the report.
     pub name: &'a [u8],
+    /// The reader that gives the CSV text.
     pub reader: R,
 }
 

@@ -34,10 +34,15 @@ pub struct Files<'a> {
 /// value.
 #[derive(Drop)]
 pub struct Frame {
+    /// The name of the left input.
     pub left: Vec<u8>,
+    /// The name of the right input.
     pub right: Vec<u8>,
+    /// The names of the columns that are compared.
     pub names: BinaryArray<i64>,
+    /// The key columns, as indices into `names`.
     pub keys: Vec<usize>,
+    /// The text of a cell that stands for no value. `None`: no cell does.
     pub null: Option<Vec<u8>>,
 }
 

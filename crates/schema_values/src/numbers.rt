@@ -25,8 +25,11 @@ use std::alloc::{AllocError, Global};
 /// values.
 #[derive(Drop)]
 pub struct Values {
+    /// The number of different values.
     pub distinct: Option<usize>,
+    /// The least value.
     pub least: Option<Vec<u8>>,
+    /// The greatest value.
     pub greatest: Option<Vec<u8>>,
 }
 
