@@ -191,12 +191,13 @@ static bool is_utf8(struct bytes text) {
   const uint8_t *s = text.data;
   size_t left = text.len;
   while (left > 0) {
+    /* Bytes that follow the first one; as many as are left where it begins no character. */
     size_t more = s[0] < 0x80   ? 0
-                  : s[0] < 0xC2 ? 9
+                  : s[0] < 0xC2 ? left
                   : s[0] < 0xE0 ? 1
                   : s[0] < 0xF0 ? 2
                   : s[0] < 0xF5 ? 3
-                                : 9;
+                                : left;
     if (more >= left) {
       return false;
     }

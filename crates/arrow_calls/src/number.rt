@@ -69,5 +69,5 @@ pub fn narrow<T: UniqueNumber>(whole: i128) -> Option<T>
     if whole < least_value::<T>().whole() || greatest_value::<T>().whole() < whole {
         return None;
     }
-    Some(T::of_whole(whole))
+    Some(T::from_whole(whole))
 }

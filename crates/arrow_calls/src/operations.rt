@@ -9,7 +9,7 @@ use arrow_columns::reducing::BitOperator;
 
 /// Returns the comparison whose code in `dunkelva.h` is `number` (`DUNKELVA_EQUAL` is 0), or `None`
 /// if the code is unknown.
-pub fn test_of(number: u32) -> Option<Test>
+pub fn comparison_of_code(number: u32) -> Option<Test>
     ensures { result ≡ test_number number }
 {
     match number {

@@ -51,7 +51,7 @@ fn last_number<T: UniqueNumber>(span: &Span<T>) -> T
     let last = span.least.whole() + (span.count - 1) as i128;
     let greatest = greatest_value::<T>();
     if last < greatest.whole() {
-        T::of_whole(last)
+        T::from_whole(last)
     } else {
         greatest
     }

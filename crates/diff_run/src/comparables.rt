@@ -141,7 +141,7 @@ fn with_tolerances(
 /// `--numbers` these have each number in its normal form. Without it the result is `None`: the
 /// inputs are compared unchanged.
 #[tactic(auto, using(crate::proofs::ComparableLemmas::exactly))]
-fn compared_exactly(
+fn compared_without_tolerances(
     alloc: Global,
     names: &BinaryArray<i64>,
     both: &Both,
@@ -180,7 +180,7 @@ pub(crate) fn compared_by(
         (IsComparedFault options.now (offset_strings (λ x. x) names.now) both.now) }
 {
     match options.tolerances {
-        None => compared_exactly(alloc, names, both, options),
+        None => compared_without_tolerances(alloc, names, both, options),
         Some(tolerances) => {
             let tables = tables_by(alloc, names, both, options)?;
             let near = with_tolerances(alloc, names, keys, tables, tolerances)?;

@@ -88,7 +88,11 @@ fn past_blanks(text: &[u8], from: usize) -> usize {
 /// token that is not allowed, that of the first byte after the closed object that isn't blank, or
 /// the length of the text. The reader takes a name together with its colon as one token, and a
 /// comma together with the token before it.
-fn no_json_place(alloc: Global, text: &str, scratch: &mut Scratch) -> Result<usize, AllocError> {
+fn invalid_json_offset(
+    alloc: Global,
+    text: &str,
+    scratch: &mut Scratch,
+) -> Result<usize, AllocError> {
     let mut reader = Reader::new(text, scratch)?;
     let mut open = Open {
         are_objects: Vec::new(alloc),
@@ -178,7 +182,7 @@ fn place_of(
     room: &mut Vec<u8>,
 ) -> Result<Option<usize>, AllocError> {
     let place = match fault {
-        LineFault::Invalid => no_json_place(alloc, text, scratch)?,
+        LineFault::Invalid => invalid_json_offset(alloc, text, scratch)?,
         LineFault::RepeatedName => second_name_place(alloc, text, scratch)?,
         LineFault::WideExponent => wide_place(text, scratch, room)?,
         LineFault::NoObject => past_blanks(text.as_bytes(), 0),

@@ -14,7 +14,7 @@ ghost use Rattle.dunkelva_c.specs.Comparisons.{IsTrueRoomFault, IsTrueTestFault,
 use crate::columns::at_one_kind;
 use arrow_calls::columns::column;
 use arrow_calls::fault::{Fault, status};
-use arrow_calls::operations::test_of;
+use arrow_calls::operations::comparison_of_code;
 use arrow_columns::comparing::{Test, compare};
 use arrow_parts::part::{Part, PartKind};
 use arrow_parts::written::write_bits;
@@ -104,7 +104,7 @@ pub extern "C" fn dunkelva_parts_compare(
     ensures refused { IsTrueStatus (IsTrueTestFault (test_number test)
         (length out.old) left.now right.now) result }
 {
-    let Some(test) = test_of(test) else {
+    let Some(test) = comparison_of_code(test) else {
         return status(Fault::NotServed);
     };
     match write_compared(alloc, test, left, right, out) {

@@ -16,7 +16,7 @@ use crate::columns::at_number_kind;
 use arrow_calls::columns::column;
 use arrow_calls::fault::{Fault, status};
 use arrow_calls::number::{narrow, whole_of};
-use arrow_calls::operations::test_of;
+use arrow_calls::operations::comparison_of_code;
 use arrow_columns::comparing::{Test, compare_with};
 use arrow_parts::part::{Part, PartKind};
 use arrow_parts::written::write_bits;
@@ -99,7 +99,7 @@ pub extern "C" fn dunkelva_part_compare_number(
     ensures refused { IsTrueStatus (IsTrueNumberTestFault (test_number test)
         (words_number low high) (length out.old) part.now) result }
 {
-    let Some(test) = test_of(test) else {
+    let Some(test) = comparison_of_code(test) else {
         return status(Fault::NotServed);
     };
     match write_compared(alloc, test, part, whole_of(low, high), out) {

@@ -101,7 +101,7 @@ impl<'p> Search<'p> {
     /// Opens a regular file again, after the comparison has read it, and searches its lines for the
     /// patterns. Stops once every pattern is found. Returns `None` if the file isn't a regular
     /// file, can't be opened or read, or if memory runs out.
-    fn read_file(&mut self, rt: &HostRuntime, file: &str) -> Option<()> {
+    fn search_file(&mut self, rt: &HostRuntime, file: &str) -> Option<()> {
         let source = open_again(rt, file)?;
         let reader = BufReader::new(rt.alloc(), source).ok()?;
         for line in reader.lines(rt.alloc()) {
@@ -125,9 +125,9 @@ fn search_files<'p>(
     right: &str,
 ) -> Option<Search<'p>> {
     let mut search = Search::new(rt.alloc(), patterns).ok()?;
-    search.read_file(rt, left)?;
+    search.search_file(rt, left)?;
     if !search.is_over() {
-        search.read_file(rt, right)?;
+        search.search_file(rt, right)?;
     }
     Some(search)
 }

@@ -12,7 +12,7 @@ use diff_tolerances::cells::Tolerance;
 use document_rows::reading::Reading;
 use document_run::options::DocumentOptions;
 use dunkelva_messages::error::Result;
-use dunkelva_messages::hints::{explained, refuse_packed};
+use dunkelva_messages::hints::{explained, refuse_not_text};
 use dunkelva_messages::trouble;
 use dunkelva_options::command::command;
 use dunkelva_options::config::{Config, config_for, joined, named_files, with_file};
@@ -150,7 +150,7 @@ fn diff(rt: &HostRuntime, matches: &ArgMatches<'_>, config: &Config) -> Result<u
 /// and returns the exit status.
 fn print_schema(rt: &HostRuntime, matches: &ArgMatches<'_>) -> Result<u8> {
     let file = matches.get_str("file").unwrap_or("-");
-    refuse_packed(rt, file)?;
+    refuse_not_text(rt, file)?;
     show_schema(rt, matches).map_err(|error| explained(rt, error, &[file]))
 }
 

@@ -21,31 +21,31 @@ use schema_report::files::Files;
 use schema_run::read::{TableSchema, read_schema};
 use schema_run::said::Form;
 
-/// Reads a CSV file, and returns the schemas of its columns. `is_beside` is true if one of the two
+/// Reads a CSV file, and returns the schemas of its columns. `has_stdin` is true if one of the two
 /// inputs is standard input.
 fn columns_in(
     rt: &HostRuntime,
     matches: &ArgMatches<'_>,
     file: &str,
     options: CsvOptions,
-    is_beside: bool,
+    has_stdin: bool,
 ) -> Result<TableSchema> {
-    let reader = open(rt, file, is_beside)?;
+    let reader = open(rt, file, has_stdin)?;
     match read_schema(rt.alloc(), reader, options, null_in(matches)) {
         Ok(schema) => Ok(schema),
         Err(error) => Err(csv_trouble(&error, options).context(file)),
     }
 }
 
-/// Reads a file of JSON documents, and returns the schemas of their paths. `is_beside` is true if
+/// Reads a file of JSON documents, and returns the schemas of their paths. `has_stdin` is true if
 /// one of the two inputs is standard input.
 fn paths_in(
     rt: &HostRuntime,
     matches: &ArgMatches<'_>,
     file: &str,
-    is_beside: bool,
+    has_stdin: bool,
 ) -> Result<DocumentSchema> {
-    let reader = open(rt, file, is_beside)?;
+    let reader = open(rt, file, has_stdin)?;
     match read_document_schema(rt.alloc(), reader, matches.get_flag("skip-bad")) {
         Ok(schema) => Ok(schema),
         Err(error) => Err(schema_trouble(&error).context(file)),
@@ -87,18 +87,18 @@ fn print_columns(
 }
 
 /// Compares the column schemas of two CSV files, prints the differences, and returns the exit
-/// status. `is_beside` is true if one of them is standard input.
+/// status. `has_stdin` is true if one of them is standard input.
 fn compare_columns(
     rt: &HostRuntime,
     matches: &ArgMatches<'_>,
     left: &str,
     right: &str,
-    is_beside: bool,
+    has_stdin: bool,
 ) -> Result<u8> {
     refuse_of_documents(matches)?;
     let options = csv_options(matches, left, right)?;
-    let before = columns_in(rt, matches, left, options, is_beside)?;
-    let after = columns_in(rt, matches, right, options, is_beside)?;
+    let before = columns_in(rt, matches, left, options, has_stdin)?;
+    let after = columns_in(rt, matches, right, options, has_stdin)?;
     let files = names_of(left, right);
     print_columns(rt, form_in(matches), files, &before, &after)
 }
@@ -121,17 +121,17 @@ fn print_paths(
 }
 
 /// Compares the path schemas of two files of documents, prints the differences, and returns the
-/// exit status. `is_beside` is true if one of them is standard input.
+/// exit status. `has_stdin` is true if one of them is standard input.
 fn compare_paths(
     rt: &HostRuntime,
     matches: &ArgMatches<'_>,
     left: &str,
     right: &str,
-    is_beside: bool,
+    has_stdin: bool,
 ) -> Result<u8> {
     refuse_of_tables(matches)?;
-    let before = paths_in(rt, matches, left, is_beside)?;
-    let after = paths_in(rt, matches, right, is_beside)?;
+    let before = paths_in(rt, matches, left, has_stdin)?;
+    let after = paths_in(rt, matches, right, has_stdin)?;
     let files = names_of(left, right);
     print_paths(rt, form_in(matches), files, &before, &after)
 }
@@ -150,9 +150,9 @@ pub(crate) fn compare_schemas(
         return Err(trouble!("only one of the two files can be standard input"));
     }
     refuse_own_output(rt, &[left, right])?;
-    let is_beside = left == "-" || right == "-";
+    let has_stdin = left == "-" || right == "-";
     if hold_documents(matches, left, right)? {
-        return compare_paths(rt, matches, left, right, is_beside);
+        return compare_paths(rt, matches, left, right, has_stdin);
     }
-    compare_columns(rt, matches, left, right, is_beside)
+    compare_columns(rt, matches, left, right, has_stdin)
 }

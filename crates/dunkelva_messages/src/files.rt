@@ -38,12 +38,12 @@ impl Read for Source {
     }
 }
 
-/// Opens a file. `is_beside` is true if the other input is standard input. If the file gets
+/// Opens a file. `has_stdin` is true if the other input is standard input. If the file gets
 /// descriptor 0 then, standard input is closed, and the call fails.
-fn open_file(rt: &HostRuntime, name: &str, is_beside: bool) -> Result<fs::File> {
+fn open_file(rt: &HostRuntime, name: &str, has_stdin: bool) -> Result<fs::File> {
     match fs::open(rt, name) {
         Ok(file) => {
-            if is_beside && file.as_raw_fd() == 0 {
+            if has_stdin && file.as_raw_fd() == 0 {
                 return Err(trouble!("standard input is closed"));
             }
             Ok(file)
@@ -52,13 +52,13 @@ fn open_file(rt: &HostRuntime, name: &str, is_beside: bool) -> Result<fs::File> 
     }
 }
 
-/// Opens an input. The name `-` is standard input. `is_beside` is true if one of the inputs is
+/// Opens an input. The name `-` is standard input. `has_stdin` is true if one of the inputs is
 /// standard input.
-pub fn open(rt: &HostRuntime, name: &str, is_beside: bool) -> Result<Source> {
+pub fn open(rt: &HostRuntime, name: &str, has_stdin: bool) -> Result<Source> {
     if name == "-" {
         return Ok(Source::Standard(rt.reader()));
     }
-    Ok(Source::File(open_file(rt, name, is_beside)?))
+    Ok(Source::File(open_file(rt, name, has_stdin)?))
 }
 
 /// Opens an input again that was read before. Returns `None` unless it is a regular file that can

@@ -34,7 +34,7 @@ fn what_is(rt: &HostRuntime, file: &str) -> Option<&'static str> {
 
 /// Fails if the first bytes of a regular file show a known format that is not UTF-8 text, such as
 /// gzip.
-pub fn refuse_packed(rt: &HostRuntime, file: &str) -> Result<()> {
+pub fn refuse_not_text(rt: &HostRuntime, file: &str) -> Result<()> {
     match what_is(rt, file) {
         Some(what) => Err(trouble!("{what}").context(file)),
         None => Ok(()),

@@ -2,7 +2,7 @@
 
 use clap::ArgMatches;
 use dunkelva_messages::error::Result;
-use dunkelva_messages::hints::refuse_packed;
+use dunkelva_messages::hints::refuse_not_text;
 use dunkelva_messages::trouble;
 use dunkelva_options::options::{GoesWith, Takes, options};
 
@@ -49,7 +49,7 @@ fn refuse_beside(rt: &HostRuntime, documents: &str, other: &str) -> Result<()> {
     if !names_documents(documents) || names_documents(other) {
         return Ok(());
     }
-    refuse_packed(rt, other)?;
+    refuse_not_text(rt, other)?;
     if names_table(other) {
         return Err(trouble!(
             "a CSV file and a JSON file can't be compared: if {other:?} or {documents:?} has \

@@ -60,7 +60,7 @@ fn has_named(patterns: &[Pattern], path: &[Step]) -> bool
     let Some((pattern, rest)) = patterns.split_first() else {
         return false;
     };
-    pattern.goes_on_in(path) || has_named(rest, path)
+    pattern.leads_inside(path) || has_named(rest, path)
 }
 
 /// Returns whether the patterns of `only` select the part at a path: they name it, a part that

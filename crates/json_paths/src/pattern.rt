@@ -73,7 +73,7 @@ impl Pattern {
 
     /// Returns whether the pattern names a part inside the part at a path. For example, `a[].b`
     /// names a part inside `a[0]`.
-    pub fn goes_on_in(&self, path: &[Step]) -> bool
+    pub fn leads_inside(&self, path: &[Step]) -> bool
         ensures { result ≡ leads_to (pattern_view self.now) (map step_view path.now) }
     {
         do_go_on(&self.steps, path)

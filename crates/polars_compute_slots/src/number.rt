@@ -15,7 +15,7 @@ pub trait UniqueNumber: NativeType + Zero {
         ensures narrow { (neg_ℤ (pos (2 ^ 64)) ≤ℤ result) × (result ≤ℤ pos (2 ^ 64)) };
 
     /// Converts an `i128` to the type. The number must lie within the bounds of the type.
-    fn of_whole(number: i128) -> Self
+    fn from_whole(number: i128) -> Self
         requires least { Self.low ≤ℤ number }
         requires greatest { number ≤ℤ Self.high }
         ensures { Self.value result ≡ number };
@@ -28,7 +28,7 @@ impl UniqueNumber for i8 {
     }
 
     #[inline(always)]
-    fn of_whole(number: i128) -> i8 {
+    fn from_whole(number: i128) -> i8 {
         number as i8
     }
 }
@@ -40,7 +40,7 @@ impl UniqueNumber for i16 {
     }
 
     #[inline(always)]
-    fn of_whole(number: i128) -> i16 {
+    fn from_whole(number: i128) -> i16 {
         number as i16
     }
 }
@@ -52,7 +52,7 @@ impl UniqueNumber for i32 {
     }
 
     #[inline(always)]
-    fn of_whole(number: i128) -> i32 {
+    fn from_whole(number: i128) -> i32 {
         number as i32
     }
 }
@@ -64,7 +64,7 @@ impl UniqueNumber for i64 {
     }
 
     #[inline(always)]
-    fn of_whole(number: i128) -> i64 {
+    fn from_whole(number: i128) -> i64 {
         number as i64
     }
 }
@@ -76,7 +76,7 @@ impl UniqueNumber for u8 {
     }
 
     #[inline(always)]
-    fn of_whole(number: i128) -> u8 {
+    fn from_whole(number: i128) -> u8 {
         number as u8
     }
 }
@@ -88,7 +88,7 @@ impl UniqueNumber for u16 {
     }
 
     #[inline(always)]
-    fn of_whole(number: i128) -> u16 {
+    fn from_whole(number: i128) -> u16 {
         number as u16
     }
 }
@@ -100,7 +100,7 @@ impl UniqueNumber for u32 {
     }
 
     #[inline(always)]
-    fn of_whole(number: i128) -> u32 {
+    fn from_whole(number: i128) -> u32 {
         number as u32
     }
 }
@@ -112,7 +112,7 @@ impl UniqueNumber for u64 {
     }
 
     #[inline(always)]
-    fn of_whole(number: i128) -> u64 {
+    fn from_whole(number: i128) -> u64 {
         number as u64
     }
 }

@@ -88,7 +88,7 @@ impl<T: UniqueNumber> Span<T> {
         requires within { slot < self.now.count }
         ensures { T.value result ≡ T.value self.now.least +ℤ pos slot }
     {
-        T::of_whole(self.least.whole() + slot as i128)
+        T::from_whole(self.least.whole() + slot as i128)
     }
 
     /// Returns whether a number is in the range.

@@ -217,7 +217,7 @@ impl NullValues for EntryNulls<'_> {
 // Returns an array of the keys seen, ascending, without those that refer to null entries. A null is
 // the last row if a null was seen, or a key to a null entry. The error is `KeyOutOfRange` if a key
 // seen has no entry, and otherwise `Memory`.
-fn named_keys(
+fn list_keys(
     alloc: Global,
     keys: PrimitiveRangedUniqueState<u32>,
     entries: &AnyArray,
@@ -286,7 +286,7 @@ impl RangedUniqueKernel for DictionaryRangedUniqueState {
 
     fn finalize_unique(self, alloc: Global) -> Result<DictionaryArray, ComputeError> {
         let DictionaryRangedUniqueState { keys, entries } = self;
-        match named_keys(alloc, keys, &entries) {
+        match list_keys(alloc, keys, &entries) {
             Ok(keys) => keyed_array(alloc, keys, entries),
             Err(refused) => {
                 drop(entries);
