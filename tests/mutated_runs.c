@@ -296,11 +296,18 @@ static size_t fault_length(const char *fault) {
     return length;
 }
 
+/* Says whether a fault is another one with a hint behind it. */
+static int adds_hint(const char *fault, const char *other) {
+    size_t length = strcspn(other, "\n");
+    return !strncmp(fault, other, length) && !strncmp(fault + length, ": ", 2);
+}
+
 /* Says whether two runs ended with the same fault. */
 static int have_one_fault(const ran *one, const ran *other) {
     const char *left = fault_of(one), *right = fault_of(other);
     size_t length = fault_length(left);
-    return length == fault_length(right) && !memcmp(left, right, length);
+    return (length == fault_length(right) && !memcmp(left, right, length)) || adds_hint(left, right) ||
+           adds_hint(right, left);
 }
 
 /* Says whether a run ended because of the columns that the options choose, which depend on both files. */
