@@ -1,23 +1,24 @@
-/* Arithmetic on columns of numbers. Their numbers are lent, and results are written into the memory
- * of the caller. */
+/* Arithmetic on columns of numbers. The kernels read the numbers of the columns in place, and write
+ * results directly to the caller's memory. */
 #include "shim.h"
 
 #include <stdlib.h>
 #include <string.h>
 
-/* The slices that the proved library takes, one for each type of numbers. Those of other types are
- * empty. */
+/* The number of types of integers. */
 enum { TYPES = 8 };
 
+/* The memory for results, as the kernels take it: a slice for each type of integers. Only the slice
+ * of the column's type is not empty. */
 struct room {
   void *values[TYPES];
   size_t len[TYPES];
-  uint64_t *words; /* a bit for each row, until the call is done */
+  uint64_t *words; /* the validity, a bit for each row, until the call has succeeded */
   int64_t rows;
-  uint64_t nulls;
+  uint64_t nulls; /* the number of results that are null */
 };
 
-/* What the caller gives for results. */
+/* The caller's memory for results. */
 struct out {
   void *values;
   size_t values_len;
@@ -25,14 +26,15 @@ struct out {
   size_t present_bytes;
 };
 
-/* The arguments of a call of the proved library for these slices. */
+/* The arguments for the parameters ROOM_FOR_NUMBERS. */
 #define IN_ROOM(room)                                                                          \
   (room)->values[0], (room)->len[0], (room)->values[1], (room)->len[1], (room)->values[2],     \
       (room)->len[2], (room)->values[3], (room)->len[3], (room)->values[4], (room)->len[4],    \
       (room)->values[5], (room)->len[5], (room)->values[6], (room)->len[6], (room)->values[7], \
       (room)->len[7], (room)->words, (size_t)words_for_bits((room)->rows), &(room)->nulls
 
-/* Describes all rows of a column of numbers. The caller closes it, also where this fails. */
+/* Opens a column and describes all its rows. Returns DUNKELVA_NOT_SERVED if the column does not
+ * store integers of 8 to 64 bits. The caller must close the column, also after a failure. */
 static int32_t open_numbers(struct column *column, const struct ArrowSchema *type,
                             const struct ArrowArray *array) {
   TRY(dunkelva_open(column, type, array, 0));
@@ -40,21 +42,23 @@ static int32_t open_numbers(struct column *column, const struct ArrowSchema *typ
   return dunkelva_is_numbers(column) ? DUNKELVA_OK : DUNKELVA_NOT_SERVED;
 }
 
-/* Returns the place of a kind of numbers among the types: signed ones first, each by its size. */
+/* Returns the index of a kind among the types of integers: first the signed types by their size,
+ * then the unsigned types. */
 static size_t place_of(uint32_t kind) {
   return kind <= KIND_INT64 ? kind - KIND_INT8 : kind - KIND_UINT8 + TYPES / 2;
 }
 
+/* Returns the size of an integer of a kind, in bytes. */
 static size_t size_of(uint32_t kind) { return (size_t)1 << (place_of(kind) % (TYPES / 2)); }
 
-/* Returns the numbers of a column. */
+/* Returns the slice with the integers of a part. */
 static struct slice numbers_of(const struct part *part) {
   const struct slice lent[TYPES] = {part->i8s, part->i16s, part->i32s, part->i64s,
                                     part->u8s, part->u16s, part->u32s, part->u64s};
   return lent[place_of(part->kind)];
 }
 
-/* Returns whether results would be written over numbers that are lent. */
+/* Returns whether the caller's memory for values overlaps the integers of a part. */
 static bool overlap(const struct part *part, const struct out *out) {
   uintptr_t lent = (uintptr_t)numbers_of(part).data;
   uintptr_t values = (uintptr_t)out->values;
@@ -62,9 +66,10 @@ static bool overlap(const struct part *part, const struct out *out) {
   return lent < values + bytes && values < lent + bytes;
 }
 
-/* Takes memory for bits, and names the caller's values, if there is room for all. */
+/* Checks the caller's memory for results, sets the slice of the part's type to that memory, and
+ * allocates memory for the validity. */
 static int32_t take_room(struct room *room, const struct part *part, const struct out *out) {
-  static uint64_t none[1] = {0}; /* an empty slice has an address too */
+  static uint64_t none[1] = {0}; /* the address of empty slices, which is not null */
   room->rows = (int64_t)part->rows;
   if (part->rows > 0 && (out->values == NULL || out->present == NULL)) {
     return DUNKELVA_BAD_ARGUMENT;
@@ -86,7 +91,8 @@ static int32_t take_room(struct room *room, const struct part *part, const struc
   return room->words == NULL ? DUNKELVA_NO_MEMORY : DUNKELVA_OK;
 }
 
-/* Gives bits to the caller where a call is done, and frees them. */
+/* Copies the validity and the number of nulls to the caller if `status` is DUNKELVA_OK, frees the
+ * memory for the validity, and returns `status`. */
 static int32_t give_room(const struct room *room, int32_t status, uint8_t *present,
                          uint64_t *nulls) {
   if (status == DUNKELVA_OK && room->rows > 0) {
@@ -99,6 +105,7 @@ static int32_t give_room(const struct room *room, int32_t status, uint8_t *prese
   return status;
 }
 
+/* Calculates with two described columns. Fails if their types or lengths differ. */
 static int32_t calculate(uint32_t operation, const struct column *left, const struct column *right,
                          struct room *room, const struct out *out) {
   if (!dunkelva_same_formats(left->type, right->type) ||

@@ -1,12 +1,13 @@
-/* Calls on columns of one level. They are handed over whole: their numbers are lent, not copied.
- * Dictionaries, whose null rows are asked for, are handed over as trees. */
+/* Calls on columns of numbers, and null rows of all columns. A column is passed to the kernels in
+ * one piece, and its numbers are not copied. Only the null rows of dictionaries are found window by
+ * window. */
 #include "shim.h"
 
 #include <stdlib.h>
 #include <string.h>
 
-/* Describes all rows of a column, where all are whole numbers of 8 to 64 bits. The caller closes
- * it, also where this fails. */
+/* Opens a column and describes all its rows. Returns DUNKELVA_NOT_SERVED if the column does not
+ * store integers of 8 to 64 bits. The caller must close the column, also after a failure. */
 static int32_t open_numbers(struct column *column, const struct ArrowSchema *type,
                             const struct ArrowArray *array) {
   TRY(dunkelva_open(column, type, array, 0));
@@ -14,13 +15,15 @@ static int32_t open_numbers(struct column *column, const struct ArrowSchema *typ
   return dunkelva_is_numbers(column) ? DUNKELVA_OK : DUNKELVA_NOT_SERVED;
 }
 
-/* Results of a call, which are kept here until it is done: a bit for each row. */
+/* The results of a call, a bit for each row. They are copied to the caller's memory after the call
+ * has succeeded. */
 struct bits {
   uint64_t *words;
   int64_t rows;
 };
 
-/* Takes memory for bits, if the caller has room for them. */
+/* Allocates memory for a bit for each row. Fails if the caller's memory `out` is null or too small.
+ */
 static int32_t take_bits(struct bits *bits, int64_t rows, const uint8_t *out, size_t out_bytes) {
   bits->rows = rows;
   if (out == NULL && rows > 0) {
@@ -33,7 +36,7 @@ static int32_t take_bits(struct bits *bits, int64_t rows, const uint8_t *out, si
   return bits->words == NULL ? DUNKELVA_NO_MEMORY : DUNKELVA_OK;
 }
 
-/* Gives bits to the caller where a call is done, and frees them. */
+/* Copies the bits to `out` if `status` is DUNKELVA_OK, frees them, and returns `status`. */
 static int32_t give_bits(struct bits *bits, int32_t status, uint8_t *out) {
   if (status == DUNKELVA_OK && bits->rows > 0) {
     memcpy(out, bits->words, (size_t)bytes_for_bits(bits->rows));
@@ -42,12 +45,12 @@ static int32_t give_bits(struct bits *bits, int32_t status, uint8_t *out) {
   return status;
 }
 
-/* Finds the null rows of a dictionary, a window of rows at a time: those whose key is null, or
- * whose entry is. */
+/* Finds the null rows of a dictionary, window by window, and adds their number to `count`. A row is
+ * null if its key is null, or if the entry that the key names is null. */
 static int32_t null_entries(struct column *column, struct bits *bits, uint64_t *count) {
   int64_t window = dunkelva_window(column);
   int64_t done = 0;
-  do { /* a window of no rows is one too: the entries are checked */
+  do { /* also once if there are no rows, so that the entries are checked */
     int64_t rows = window < bits->rows - done ? window : bits->rows - done;
     uint64_t nulls = 0;
     TRY(dunkelva_describe(column, done, rows));
@@ -59,9 +62,9 @@ static int32_t null_entries(struct column *column, struct bits *bits, uint64_t *
   return DUNKELVA_OK;
 }
 
-/* Finds the null rows of a column. In all types but dictionaries and those that have no validity a
- * row is null where the validity says so. So the validity alone is handed over, as that of truth
- * values. */
+/* Finds the null rows of a column. For all types except dictionaries and the null type, the
+ * validity alone says which rows are null. So only the validity is passed to the kernel, as the
+ * validity of a column of truth values. */
 static int32_t is_null(struct column *column, struct bits *bits, const struct ArrowSchema *type,
                        const struct ArrowArray *array, const uint8_t *out, size_t out_bytes,
                        uint64_t *count) {
@@ -92,6 +95,7 @@ int32_t dunkelva_is_null(const struct ArrowSchema *type, const struct ArrowArray
   return give_bits(&bits, status, out);
 }
 
+/* Compares two described columns of numbers, and stores the results in `bits`. */
 static int32_t compare(uint32_t test, struct column *left, struct column *right, struct bits *bits,
                        const uint8_t *out, size_t out_bytes) {
   if (!dunkelva_same_formats(left->type, right->type) ||
@@ -144,6 +148,7 @@ int32_t dunkelva_min_max(const struct ArrowSchema *type, const struct ArrowArray
   return status;
 }
 
+/* Compares a described column of numbers with a number, and stores the results in `bits`. */
 static int32_t compare_number(uint32_t test, const struct column *column,
                               const struct dunkelva_number *number, struct bits *bits,
                               const uint8_t *out, size_t out_bytes) {

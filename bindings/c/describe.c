@@ -1,17 +1,17 @@
-/* Columns as parts: what the proved library is lent of each array, for a window of its rows. */
+/* Columns as parts: pointers to the buffers of each array, for a window of its rows. */
 #include "shim.h"
 
 #include <stdlib.h>
 #include <string.h>
 
-/* What a slice of nothing points to, and the one offset of an array of no rows. */
+/* The address of empty slices, and the only offset of an array without rows. */
 static const uint64_t nothing[1] = {0};
 
-/* A walk over the arrays of a column. */
+/* The state of a walk over the arrays of a column. */
 struct walk {
   struct column *column;
-  struct part *part;   /* the next one */
-  struct slice *slice; /* the next one */
+  struct part *part;   /* the next unused part */
+  struct slice *slice; /* the next unused slice for a buffer of views */
 };
 
 static struct slice empty_slice(void) {
@@ -19,8 +19,8 @@ static struct slice empty_slice(void) {
   return slice;
 }
 
-/* Returns a copy at a good address, or null where there is no memory. The column keeps it until the
- * next window. */
+/* Copies `bytes` bytes to an aligned address, and returns the copy, or null if an allocation fails.
+ * The column owns the copy until its next window is described. */
 static const void *copy_of(struct column *column, const void *data, size_t bytes) {
   struct copy *copy = malloc(sizeof *copy + bytes);
   if (copy == NULL) {
@@ -40,8 +40,8 @@ static void drop_copies(struct column *column) {
   }
 }
 
-/* Lends `count` elements of `size` bytes, those from element `first` of a buffer on. They are
- * copied where they lie at a bad address. */
+/* Sets `slice` to `count` elements of `size` bytes of a buffer, from element `first` on. If their
+ * address is not a multiple of `size`, the slice gets a copy. Fails if the buffer is null. */
 static int32_t lend(struct walk *walk, struct slice *slice, const void *buffer, int64_t first,
                     int64_t count, size_t size) {
   if (count == 0) {
@@ -62,15 +62,15 @@ static int32_t lend(struct walk *walk, struct slice *slice, const void *buffer, 
   return DUNKELVA_OK;
 }
 
-/* Lends the bits of `count` rows, those from bit `first` of a buffer on: whole bytes from the one
- * that has this bit. */
+/* Sets `slice` to the bytes with the bits of `count` rows, from bit `first` of a buffer on. The
+ * first byte of the slice has this bit. */
 static int32_t lend_bits(struct walk *walk, struct slice *slice, const void *buffer, int64_t first,
                          int64_t count) {
   return lend(walk, slice, buffer, first / 8, count == 0 ? 0 : bytes_for_bits(first % 8 + count),
               1);
 }
 
-/* Returns an offset of a buffer, which may lie at a bad address. */
+/* Returns the offset with index `place` of a buffer. The buffer need not be aligned. */
 static int64_t offset_at(const void *buffer, bool is_large, int64_t place) {
   if (is_large) {
     int64_t offset = 0;
@@ -82,13 +82,13 @@ static int64_t offset_at(const void *buffer, bool is_large, int64_t place) {
   return offset;
 }
 
-/* Lends the offsets of `count` rows as they are. The bytes or items of these rows are those from
- * `base` on, `length` in all. */
+/* Sets the slice of offsets of a part to the offsets of `count` rows. Sets part->base to the first
+ * of these offsets, and `length` to the number of bytes or items between the first and the last. */
 static int32_t lend_offsets(struct walk *walk, struct part *part, const void *buffer, bool is_large,
                             int64_t first, int64_t count, int64_t *length) {
   struct slice *slice = is_large ? &part->i64s : &part->i32s;
   *length = 0;
-  if (count == 0) { /* such an array may have no offset at all */
+  if (count == 0) { /* the buffer may be null or empty */
     slice->data = nothing;
     slice->len = 1;
     return DUNKELVA_OK;
@@ -106,7 +106,7 @@ static int32_t lend_offsets(struct walk *walk, struct part *part, const void *bu
   return lend(walk, slice, buffer, first, count + 1, is_large ? sizeof(int64_t) : sizeof(int32_t));
 }
 
-/* Lends byte strings: their offsets, and the bytes between these. */
+/* Sets the slices of a part of byte strings: the offsets, and the bytes between them. */
 static int32_t lend_strings(struct walk *walk, struct part *part, const struct ArrowArray *array,
                             bool is_large, int64_t first, int64_t count) {
   int64_t length = 0;
@@ -114,7 +114,8 @@ static int32_t lend_strings(struct walk *walk, struct part *part, const struct A
   return lend(walk, &part->u8s, array->buffers[2], (int64_t)part->base, length, 1);
 }
 
-/* Lends views, and the buffers that they can name. Only the proved library reads views. */
+/* Sets the slices of a part of views: the views, and the buffers to which they can point. The shim
+ * reads no view; the proved kernels do. */
 static int32_t lend_views(struct walk *walk, struct part *part, const struct ArrowArray *array,
                           int64_t first, int64_t count) {
   size_t buffers = (size_t)(array->n_buffers - 3);
@@ -131,7 +132,7 @@ static int32_t lend_views(struct walk *walk, struct part *part, const struct Arr
   return DUNKELVA_OK;
 }
 
-/* Lends numbers into the slice of their type. */
+/* Sets the slice of a part that has the type of the numbers. */
 static int32_t lend_numbers(struct walk *walk, struct part *part, enum kind kind,
                             const void *numbers, int64_t first, int64_t count) {
   switch (kind) {
@@ -151,15 +152,15 @@ static int32_t lend_numbers(struct walk *walk, struct part *part, enum kind kind
     return lend(walk, &part->u32s, numbers, first, count, 4);
   case KIND_UINT64:
     return lend(walk, &part->u64s, numbers, first, count, 8);
-  case KIND_INT128: /* pairs */
+  case KIND_INT128: /* pairs of 64 bits */
     return lend(walk, &part->u64s, numbers, 2 * first, 2 * count, 8);
   default:
     return DUNKELVA_NOT_SERVED;
   }
 }
 
-/* Lends what an array of one level keeps of its rows, or the offsets of lists. `length` gets how
- * many items the lists have, from `base` on. */
+/* Sets the slices of a part to the buffers that its kind has besides the validity. For lists these
+ * are the offsets, and `length` gets the number of items, which begin at part->base. */
 static int32_t lend_rows(struct walk *walk, struct part *part, const struct ArrowArray *array,
                          struct layout layout, int64_t first, int64_t *length) {
   int64_t count = (int64_t)part->rows;
@@ -190,7 +191,8 @@ static int32_t lend_rows(struct walk *walk, struct part *part, const struct Arro
   }
 }
 
-/* Returns the kind of a dictionary with keys of this kind. */
+/* Returns the kind of a dictionary with keys of kind `keys`, or KIND_NONE if keys can't be of it.
+ */
 static enum kind dictionary_kind(enum kind keys) {
   switch (keys) {
   case KIND_INT8:
@@ -214,7 +216,8 @@ static enum kind dictionary_kind(enum kind keys) {
   }
 }
 
-/* Begins a part for `count` rows of an array, with nothing lent yet. */
+/* Takes the next part, for `count` rows of an array, and makes all its slices empty. `first` is the
+ * index of the first row in the buffers. */
 static struct part *begin_part(struct walk *walk, struct layout layout, int64_t first,
                                int64_t count) {
   struct part *part = walk->part++;
@@ -232,7 +235,7 @@ static struct part *begin_part(struct walk *walk, struct layout layout, int64_t 
   return part;
 }
 
-/* Lends the name of a field. Other names are no part of a type. */
+/* Sets the name of the part of a field of a struct. Other names are no part of a type. */
 static void lend_name(struct part *part, const struct ArrowSchema *type) {
   if (type->name != NULL) {
     part->name.data = type->name;
@@ -243,8 +246,8 @@ static void lend_name(struct part *part, const struct ArrowSchema *type) {
 static int32_t describe(struct walk *walk, const struct ArrowSchema *type,
                         const struct ArrowArray *array, int64_t from, int64_t count);
 
-/* Describes the arrays inside an array. Row `first` of its buffers is the first of its window; of
- * lists, `items` are those from `base` on. */
+/* Describes the arrays in an array. `first` is the index in its buffers of the first row of its
+ * window. For lists, `items` is the number of items of the window, which begin at part->base. */
 static int32_t describe_children(struct walk *walk, struct part *part,
                                  const struct ArrowSchema *type, const struct ArrowArray *array,
                                  int64_t first, int64_t items) {
@@ -273,8 +276,8 @@ static int32_t describe_children(struct walk *walk, struct part *part,
   return DUNKELVA_OK;
 }
 
-/* Describes `count` rows of an array, those from row `from` on. The levels are few (MOST_LEVELS).
- */
+/* Describes `count` rows of an array and of all arrays in it, from row `from` on. The recursion is
+ * at most MOST_LEVELS deep. */
 static int32_t describe(struct walk *walk, const struct ArrowSchema *type,
                         const struct ArrowArray *array, int64_t from, int64_t count) {
   if (from > array->length || count > array->length - from) {
@@ -321,7 +324,7 @@ bool dunkelva_is_numbers(const struct column *column) {
 }
 
 int64_t dunkelva_window(const struct column *column) {
-  /* A dictionary is handed over whole each time. */
+  /* All entries of a dictionary are described for each window, so windows are as long as these. */
   int64_t rows = column->extent.entries < WINDOW_ROWS ? WINDOW_ROWS : column->extent.entries;
   return 64 * words_for_bits(rows);
 }

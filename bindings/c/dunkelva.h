@@ -1,23 +1,29 @@
 /* Kernels for columns of the Arrow C data interface.
  *
- * A column is a pair of an ArrowSchema, which has its type, and an ArrowArray, which has its rows.
- * pyarrow, polars, duckdb, GDAL, arrow-rs, nanoarrow and others export their columns so:
+ * A column is a pair of two structs: an ArrowSchema, which has the type of the column, and an
+ * ArrowArray, which has the rows of the column. pyarrow, polars, duckdb, GDAL, arrow-rs, nanoarrow
+ * and others export columns as these structs:
  * https://arrow.apache.org/docs/format/CDataInterface.html
  *
- * - Columns are borrowed. A call reads them while it runs and releases nothing.
- * - A call returns 0 (DUNKELVA_OK) or another status, which leaves all that the call writes as it
- *   was.
- * - What a call writes must not overlap what it reads, nor anything else that it writes. So no
- *   state is merged with itself, and `least` and `greatest` are two numbers.
- * - Nothing is kept between calls. A call runs in its caller's thread, and calls can run in many
- *   threads at once.
- * - A result depends on the rows alone: never on what is stored under a null, on offsets, on
- *   buffers, or on whether there is a validity. `null_count` is never read.
- * - Buffers must have the lengths that the interface asks of them. It does not say how long a
- * buffer is, so no library can check that. What else can be wrong with an array is a status.
- * - A column has at most 64 levels of types in types, and at most 2^20 types in all.
+ * - A call borrows its columns. The call reads them until it returns, releases none of them, and
+ *   keeps no pointer to them.
+ * - Most calls return an int32_t, which is a value of enum dunkelva_status. DUNKELVA_OK, which is
+ *   0, means success. After any other status all memory that the call writes is unchanged.
+ * - The memory that a call writes must not overlap the memory that the call reads, nor other memory
+ *   that the call writes. So a state of distinct values can't be merged with itself, and
+ *   `least` and `greatest` of `dunkelva_min_max` must be two structs.
+ * - The library has no state of its own: nothing is stored between two calls. A call runs in the
+ *   thread of its caller. Many threads can call at the same time, also with the same columns.
+ * - A result depends only on the rows of a column. It does not depend on values that are stored
+ *   under nulls, on offsets, on how rows are split into buffers, or on whether a column without
+ *   nulls has a validity bitmap. The member `null_count` is never read.
+ * - Each buffer must be as long as the interface requires. The interface does not pass the lengths
+ *   of buffers, so no call can check them. A call checks everything else about an array, as far as
+ *   the result depends on it, and returns a status if it finds a fault.
+ * - A column can have 64 levels of nested types, 2^20 types in all, and 2^20 buffers to which views
+ *   point.
  *
- * For little-endian machines of 64 bits. */
+ * The library is for little-endian machines with pointers of 64 bits. */
 #ifndef DUNKELVA_H
 #define DUNKELVA_H
 
@@ -28,7 +34,8 @@
 extern "C" {
 #endif
 
-/* The two structs as the interface defines them. Another header may have defined them already. */
+/* The structs of a column, as the Arrow C data interface defines them. The guard leaves them out if
+ * another header has defined them. */
 #ifndef ARROW_C_DATA_INTERFACE
 #define ARROW_C_DATA_INTERFACE
 
@@ -63,127 +70,252 @@ struct ArrowArray {
 
 #endif
 
-/* What a call returns. */
+/* A stream of arrays of one type, as the Arrow C stream interface defines it. No call of this
+ * header takes a stream: get the schema and each array from the stream, and pass these to
+ * `dunkelva_equal_rows`. The guard leaves the struct out if another header has defined it. */
+#ifndef ARROW_C_STREAM_INTERFACE
+#define ARROW_C_STREAM_INTERFACE
+
+struct ArrowArrayStream {
+  int (*get_schema)(struct ArrowArrayStream *, struct ArrowSchema *out);
+  int (*get_next)(struct ArrowArrayStream *, struct ArrowArray *out);
+  const char *(*get_last_error)(struct ArrowArrayStream *);
+  void (*release)(struct ArrowArrayStream *);
+  void *private_data;
+};
+
+#endif
+
+/* The statuses that calls return. Each call that takes a column can return DUNKELVA_BAD_ARRAY,
+ * DUNKELVA_NO_MEMORY, DUNKELVA_NOT_SERVED or DUNKELVA_BAD_STRUCTS. The comments below call these
+ * four the "statuses of columns". The comment of a call names the other statuses that the call can
+ * return after a failure. */
 enum dunkelva_status {
+  /* The call succeeded. */
   DUNKELVA_OK = 0,
-  /* The buffers make no array: offsets, keys, views, texts that are not UTF-8. */
+  /* The content of a buffer is invalid: an offset is negative or less than the offset before it, a
+   * key names no entry, a view does not match its bytes, or the name of a field is not UTF-8. With
+   * DUNKELVA_CHECK_TEXTS also: a text is not UTF-8. */
   DUNKELVA_BAD_ARRAY = 1,
-  /* The columns differ in type or length. */
+  /* Two columns differ in type or length; the type of a column has no value for a given number or
+   * for an end of a range; or two states have different ranges. */
   DUNKELVA_TYPES_DIFFER = 2,
   /* The memory for results is too small: `out`, `values`, `present`, `counts` or `bits`. */
   DUNKELVA_NO_ROOM = 3,
   /* An allocation failed. */
   DUNKELVA_NO_MEMORY = 4,
-  /* The call does not serve this type, or there is no operation of this number. */
+  /* The call does not take columns of this type, or an enum argument has none of its values. */
   DUNKELVA_NOT_SERVED = 5,
-  /* The structs break the interface (counts, null pointers, structs that were released), or have
-   * more types than are served. */
+  /* A struct breaks the interface: a count or a length is wrong, a pointer is null, a struct was
+   * released, or a child has fewer rows than its parent needs. Or the column has more types or more
+   * levels than the library takes. */
   DUNKELVA_BAD_STRUCTS = 6,
-  /* A flag or a number that does not exist; rows outside of a column; a null pointer for results, a
-   * number or a state; `values` that is not at a multiple of its numbers' size, or overlaps a
-   * column; a range whose ends are not in order or too far apart. */
+  /* An argument is wrong:
+   * - `flags` has an unknown bit;
+   * - rows lie outside of a column;
+   * - a pointer for results, to a number or to a state is null;
+   * - a given number has `exists` 0;
+   * - `values` is not at a multiple of the size of its numbers, or overlaps a column;
+   * - the ends of a range are not in order, or the range has too many numbers. */
   DUNKELVA_BAD_ARGUMENT = 7,
-  /* A row lies outside of the range of a state. */
+  /* A row of a column is outside of the range of a state. */
   DUNKELVA_OUT_OF_RANGE = 8
 };
 
-/* Serves floats too, and compares their bits: a NaN is equal to a NaN of the same bits, and -0 is
- * not equal to 0. Without this flag floats are DUNKELVA_NOT_SERVED. */
+/* A flag: floats are compared by their bits. A NaN is then equal to a NaN with the same bits, and
+ * -0 is not equal to 0. Without this flag, the status for a column with floats is
+ * DUNKELVA_NOT_SERVED. */
 #define DUNKELVA_FLOATS_BY_BITS 1U
 
-/* Checks that texts are UTF-8. That takes several times as long as the comparison. Without this
- * flag texts are compared as the bytes that they are. */
+/* A flag: the call checks that texts are UTF-8, and returns DUNKELVA_BAD_ARRAY if a text is not.
+ * The check takes several times as long as the comparison. Without this flag, texts are compared
+ * byte by byte, and any bytes are accepted. */
 #define DUNKELVA_CHECK_TEXTS 2U
 
-/* Compares two columns of one type and one length, row by row.
+/* Compares all rows of two columns of the same type and length. Row i of `left` is compared with
+ * row i of `right`.
  *
- * Bit i of `out` (bit i % 8 of byte i / 8, as in a validity) is 1 exactly where row i of the left
- * column and row i of the right one are the same tree; a null is equal to a null alone. `out` takes
- * (length + 7) / 8 bytes. The bits behind the last row of its last byte are 0.
+ * Bit i of `out` is 1 if the two rows i are equal, and else 0. Bit i is bit i % 8 of byte i / 8, as
+ * in a validity bitmap of Arrow. The call writes (length + 7) / 8 bytes to `out`; the bits after
+ * the last row are 0. `out_bytes` is the size of `out` in bytes. `flags` is 0, or
+ * DUNKELVA_FLOATS_BY_BITS and DUNKELVA_CHECK_TEXTS combined by |.
  *
- * Types are the same where their formats are, letter for letter (unit, time zone, precision and
- * scale), and the names of the fields of structs. Metadata and flags of schemas are not compared.
- */
+ * - A null is equal only to a null.
+ * - Lists are equal if they have the same number of items, and the items are equal.
+ * - Structs are equal if all their fields are equal.
+ * - Maps are equal if they have the same entries in the same order.
+ * - Rows of dictionaries are equal if the entries that their keys name are equal.
+ *
+ * Two types are the same if their formats are the same text (so unit, time zone, precision and
+ * scale are the same), if the types in them are the same, and if the fields of structs have the
+ * same names in the same order. The names of columns and of items of lists, metadata and flags of
+ * schemas are not compared.
+ *
+ * Returns a status of columns, or
+ * - DUNKELVA_TYPES_DIFFER if the columns differ in type or length,
+ * - DUNKELVA_NO_ROOM if `out_bytes` is less than (length + 7) / 8,
+ * - DUNKELVA_BAD_ARGUMENT if `flags` has an unknown bit, or if `out` is null and the columns have
+ *   rows. */
 int32_t dunkelva_equal(const struct ArrowSchema *left_type, const struct ArrowArray *left,
                        const struct ArrowSchema *right_type, const struct ArrowArray *right,
                        uint32_t flags, uint8_t *out, size_t out_bytes);
 
-/* Compares two columns in the same way, and writes a byte for each row in place of a bit: byte i of
- * `out` is 1 or 0. `out` takes as many bytes as there are rows. */
+/* Compares all rows of two columns by the rules of `dunkelva_equal`, and writes a byte for each
+ * row: byte i of `out` is 1 if the two rows i are equal, and else 0. The call writes as many bytes
+ * as a column has rows. `out_len` is the size of `out` in bytes.
+ *
+ * Returns a status of columns, or
+ * - DUNKELVA_TYPES_DIFFER if the columns differ in type or length,
+ * - DUNKELVA_NO_ROOM if `out_len` is less than the number of rows,
+ * - DUNKELVA_BAD_ARGUMENT if `flags` has an unknown bit, or if `out` is null and the columns have
+ *   rows. */
 int32_t dunkelva_equal_bytes(const struct ArrowSchema *left_type, const struct ArrowArray *left,
                              const struct ArrowSchema *right_type, const struct ArrowArray *right,
                              uint32_t flags, uint8_t *out, size_t out_len);
 
-/* Compares `rows` rows of two columns, those from row `left_first` and from row `right_first` on.
- * So batches that end at different rows can be compared.
+/* Compares a window of `rows` rows of each column by the rules of `dunkelva_equal`. The window of
+ * `left` begins at its row `left_first`, and the window of `right` at its row `right_first`. Rows
+ * are counted from 0, and row 0 is the first row after the `offset` of the array.
  *
- * Where `comparisons` is not null, it gets the number of leaf values that were compared. */
+ * The two columns need the same type, but can have different lengths. So this call can compare two
+ * streams whose arrays end at different rows: compare as many rows as both current arrays have
+ * left, and then get the next array of each stream that has no row left.
+ *
+ * Bit i of `out` is 1 if row left_first + i of `left` and row right_first + i of `right` are equal,
+ * and else 0. The call writes (rows + 7) / 8 bytes to `out`, from bit 0 on; the bits after the last
+ * row are 0. `out_bytes` is the size of `out` in bytes. If `rows` is 0, nothing is written to
+ * `out`, but the types are compared.
+ *
+ * `comparisons` may be null. If it is not null, the call stores there how many leaf values were
+ * compared. A leaf value is a stored number, truth value, text or byte string.
+ *
+ * Returns a status of columns, or
+ * - DUNKELVA_TYPES_DIFFER if the columns differ in type,
+ * - DUNKELVA_NO_ROOM if `out_bytes` is less than (rows + 7) / 8,
+ * - DUNKELVA_BAD_ARGUMENT if `left_first`, `right_first` or `rows` is negative, if a window ends
+ *   after the last row of its column, if `flags` has an unknown bit, or if `out` is null and `rows`
+ *   is not 0. */
 int32_t dunkelva_equal_rows(const struct ArrowSchema *left_type, const struct ArrowArray *left,
                             int64_t left_first, const struct ArrowSchema *right_type,
                             const struct ArrowArray *right, int64_t right_first, int64_t rows,
                             uint32_t flags, uint8_t *out, size_t out_bytes, uint64_t *comparisons);
 
-/* Writes which rows of a column are null: bit i of `out`, as in `dunkelva_equal`, is 1 where row i
- * is null. Where `count` is not null, it gets how many they are. A row of a dictionary is null
- * where its key is, or the entry that the key names. Serves the types of `dunkelva_equal`. Floats
- * need no flag. */
+/* Finds the null rows of a column. Bit i of `out` is 1 if row i is null, and else 0. A row of a
+ * dictionary is null if its key is null, or if the key names an entry that is null.
+ *
+ * The call writes (length + 7) / 8 bytes to `out`, laid out as by `dunkelva_equal`; the bits after
+ * the last row are 0. `out_bytes` is the size of `out` in bytes. `count` may be null. If it is not
+ * null, the call stores there how many rows are null.
+ *
+ * The call takes columns of all types that `dunkelva_equal` takes, and columns of floats.
+ *
+ * Returns a status of columns, or
+ * - DUNKELVA_NO_ROOM if `out_bytes` is less than (length + 7) / 8,
+ * - DUNKELVA_BAD_ARGUMENT if `out` is null and the column has rows. */
 int32_t dunkelva_is_null(const struct ArrowSchema *type, const struct ArrowArray *array,
                          uint8_t *out, size_t out_bytes, uint64_t *count);
 
-/* The calls below serve columns of whole numbers of 8 to 64 bits, and others that are kept as such:
- * dates, times, spans, points in time, decimals of 32 and 64 bits. */
+/* The calls below take columns of numbers: signed and unsigned integers of 8 to 64 bits, and
+ * columns that Arrow stores as such integers, which are dates, times, durations, timestamps,
+ * intervals of months or of days and milliseconds, and decimals of 32 and 64 bits. The calls read
+ * the stored integers: of the decimal 1.50 the integer 150. Other columns, also floats,
+ * dictionaries, and decimals of 128 and 256 bits, are DUNKELVA_NOT_SERVED. */
 
 /* Comparisons of two rows. */
 enum dunkelva_test {
-  /* Null is equal to null alone. */
+  /* A null is equal only to a null. */
   DUNKELVA_EQUAL = 0,
   DUNKELVA_UNEQUAL = 1,
-  /* These hold of no null. */
+  /* The four comparisons of order are false if one of the two rows is null, or both. */
   DUNKELVA_LESS = 2,
   DUNKELVA_LESS_OR_EQUAL = 3,
   DUNKELVA_GREATER = 4,
   DUNKELVA_GREATER_OR_EQUAL = 5
 };
 
-/* Compares two columns of one type and one length, row by row. Bit i of `out`, as in
- * `dunkelva_equal`, is 1 where the test holds of the two rows i. */
+/* Compares two columns of numbers of the same type and length, row by row. Bit i of `out` is 1 if
+ * the comparison `test` is true, with row i of `left` on its left side and row i of `right` on its
+ * right side, and else 0.
+ *
+ * The call writes (length + 7) / 8 bytes to `out`, laid out as by `dunkelva_equal`; the bits after
+ * the last row are 0. `out_bytes` is the size of `out` in bytes.
+ *
+ * Returns a status of columns, or
+ * - DUNKELVA_NOT_SERVED if `test` is no value of enum dunkelva_test,
+ * - DUNKELVA_TYPES_DIFFER if the columns differ in type or length,
+ * - DUNKELVA_NO_ROOM if `out_bytes` is less than (length + 7) / 8,
+ * - DUNKELVA_BAD_ARGUMENT if `out` is null and the columns have rows. */
 int32_t dunkelva_compare(enum dunkelva_test test, const struct ArrowSchema *left_type,
                          const struct ArrowArray *left, const struct ArrowSchema *right_type,
                          const struct ArrowArray *right, uint8_t *out, size_t out_bytes);
 
-/* A number of 128 bits, in two's complement, or none: then `exists`, `low` and `high` are 0. A
- * number of a column of signed numbers is (int64_t)low, one of unsigned numbers is `low`. */
+/* An integer of 128 bits in two's complement, or no integer. `low` has the lower 64 bits, and
+ * `high` the upper 64 bits. If `exists` is 0, the struct has no integer. A call that returns no
+ * integer sets all three members to 0, and a call that returns one sets `exists` to 1.
+ *
+ * To read a result: the integer is (int64_t)low for a column of signed integers, and `low` for a
+ * column of unsigned integers.
+ *
+ * To pass an integer, set all three members. For an int64_t n and for a uint64_t m:
+ *     struct dunkelva_number signed_number = {(uint64_t)n, n < 0 ? UINT64_MAX : 0, 1};
+ *     struct dunkelva_number unsigned_number = {m, 0, 1};
+ * If `exists` is 0, calls return DUNKELVA_BAD_ARGUMENT. If n is negative and `high` is 0, the
+ * struct has the integer n + 2^64. No column of signed integers has a value for this integer, so
+ * calls with such a column return DUNKELVA_TYPES_DIFFER. */
 struct dunkelva_number {
   uint64_t low;
   uint64_t high;
   uint64_t exists;
 };
 
-/* Adds the rows that are present. The sum is wrapped to the type of the column, so that 100 and 100
- * are -56 in a column of 8 bits. It does not exist where no row is present. */
+/* Adds all rows of a column of numbers that are not null, and stores the sum in `sum`. The sum
+ * wraps around in the type of the column: in a column of int8 the sum of 100 and 100 is -56. If all
+ * rows are null, or if there are no rows, sum->exists is 0.
+ *
+ * Returns a status of columns, or DUNKELVA_BAD_ARGUMENT if `sum` is null. */
 int32_t dunkelva_sum(const struct ArrowSchema *type, const struct ArrowArray *array,
                      struct dunkelva_number *sum);
 
-/* Finds the least and the greatest row that is present. Neither exists where no row is present. */
+/* Stores the least and the greatest of all rows of a column of numbers that are not null in `least`
+ * and `greatest`. If all rows are null, or if there are no rows, least->exists and greatest->exists
+ * are 0.
+ *
+ * Returns a status of columns, or DUNKELVA_BAD_ARGUMENT if `least` or `greatest` is null. */
 int32_t dunkelva_min_max(const struct ArrowSchema *type, const struct ArrowArray *array,
                          struct dunkelva_number *least, struct dunkelva_number *greatest);
 
-/* Compares each row of a column with one number, on the right. The status is DUNKELVA_TYPES_DIFFER
- * where the column's type has no such number. */
+/* Compares each row of a column of numbers with one number. Bit i of `out` is 1 if the comparison
+ * `test` is true, with row i on its left side and `number` on its right side, and else 0.
+ *
+ * The call writes (length + 7) / 8 bytes to `out`, laid out as by `dunkelva_equal`; the bits after
+ * the last row are 0. `out_bytes` is the size of `out` in bytes.
+ *
+ * Returns a status of columns, or
+ * - DUNKELVA_NOT_SERVED if `test` is no value of enum dunkelva_test,
+ * - DUNKELVA_TYPES_DIFFER if the type of the column has no value for `number`, such as 300 for
+ *   uint8,
+ * - DUNKELVA_NO_ROOM if `out_bytes` is less than (length + 7) / 8,
+ * - DUNKELVA_BAD_ARGUMENT if `number` is null, if number->exists is 0, or if `out` is null and the
+ *   column has rows. */
 int32_t dunkelva_compare_number(enum dunkelva_test test, const struct ArrowSchema *type,
                                 const struct ArrowArray *array,
                                 const struct dunkelva_number *number, uint8_t *out,
                                 size_t out_bytes);
 
-/* Ways to join the bits of numbers. */
+/* Operations that combine two numbers bit by bit. */
 enum dunkelva_join { DUNKELVA_AND = 0, DUNKELVA_OR = 1, DUNKELVA_XOR = 2 };
 
-/* Joins the bits of all rows that are present, place by place. The result does not exist where no
- * row is present. */
+/* Combines all rows of a column of numbers that are not null by and, or, xor, and stores the number
+ * in `result`. If all rows are null, or if there are no rows, result->exists is 0.
+ *
+ * Returns a status of columns, or
+ * - DUNKELVA_NOT_SERVED if `join` is no value of enum dunkelva_join,
+ * - DUNKELVA_BAD_ARGUMENT if `result` is null. */
 int32_t dunkelva_reduce_bits(enum dunkelva_join join, const struct ArrowSchema *type,
                              const struct ArrowArray *array, struct dunkelva_number *result);
 
-/* Bits of a number that are counted: all that are 1 or 0, or those at its upper or lower end. */
+/* The bits of a number that are counted: all ones or all zeros, the ones or zeros before the first
+ * other bit from the highest bit on (LEADING), or from the lowest bit on (TRAILING). */
 enum dunkelva_bits {
   DUNKELVA_ONES = 0,
   DUNKELVA_ZEROS = 1,
@@ -193,107 +325,195 @@ enum dunkelva_bits {
   DUNKELVA_TRAILING_ZEROS = 5
 };
 
-/* Counts bits of each row. `counts` takes as many numbers as there are rows. Those of null rows
- * mean nothing. */
+/* Counts bits of each row of a column of numbers. counts[i] is the count of row i. The count of a
+ * null row has no meaning. The call writes as many counts of 4 bytes as the column has rows.
+ * `counts_len` is the number of counts for which `counts` has memory.
+ *
+ * Returns a status of columns, or
+ * - DUNKELVA_NOT_SERVED if `bits` is no value of enum dunkelva_bits,
+ * - DUNKELVA_NO_ROOM if `counts_len` is less than the number of rows,
+ * - DUNKELVA_BAD_ARGUMENT if `counts` is null and the column has rows. */
 int32_t dunkelva_count_bits(enum dunkelva_bits bits, const struct ArrowSchema *type,
                             const struct ArrowArray *array, uint32_t *counts, size_t counts_len);
 
-/* Operations on two numbers. */
+/* Arithmetic operations on two numbers. */
 enum dunkelva_operation {
   DUNKELVA_ADD = 0,
   DUNKELVA_SUBTRACT = 1,
   DUNKELVA_MULTIPLY = 2,
-  /* -7 by 2 is -4, rounded down, */
+  /* The quotient is rounded down: -7 divided by 2 is -4. */
   DUNKELVA_FLOOR_DIVIDE = 3,
-  /* or -3, rounded toward 0. */
+  /* The quotient is rounded toward 0: -7 divided by 2 is -3. */
   DUNKELVA_TRUNCATING_DIVIDE = 4,
-  /* The remainder of the division that rounds down: 1. It has the sign of the divisor, or is 0. */
+  /* The remainder of DUNKELVA_FLOOR_DIVIDE: -7 modulo 2 is 1. The remainder is 0 or has the sign of
+   * the divisor. */
   DUNKELVA_MODULO = 5
 };
 
-/* Calculates with the rows of two columns of one type and one length, row by row, on the numbers
- * that are kept: of decimals without their scale. Results are wrapped to the type: in a column of 8
- * bits 100 and 100 are -56, and -128 by -1 is -128. A result is null where one of the two rows is,
- * or where the divisor is 0.
+/* Calculates with two columns of numbers of the same type and length, row by row: row i of `left`
+ * is the left operand, and row i of `right` the right operand. The operands are the stored
+ * integers; the scale of decimals is ignored.
  *
- * `values` takes as many numbers of the type as there are rows. It lies at a multiple of their
- * size, and none of it belongs to a column. What it gets for nulls means nothing. Bit i of
- * `present`, as in a validity, is 1 where result i is no null; it takes (length + 7) / 8 bytes, and
- * the bits behind the last row are 0. Where `nulls` is not null, it gets how many results are null.
- */
+ * A result wraps around in the type of the columns: in columns of int8 100 + 100 is -56, and -128
+ * divided by -1 is -128. A result is null if one of the two rows is null, or if the divisor is 0.
+ *
+ * - `values` gets the results, as an array of the integer type that the columns store, such as
+ *   int32_t for the format "i". The call writes as many integers as a column has rows. The integer
+ *   of a null result has no meaning. `values` must be at an address that is a multiple of the size
+ *   of an integer, and must not overlap the memory of a column. `values_len` is the number of
+ *   integers for which `values` has memory.
+ * - `present` gets a validity bitmap: bit i is 1 if result i is not null, and else 0. The call
+ *   writes (length + 7) / 8 bytes, laid out as by `dunkelva_equal`; the bits after the last row are
+ *   0. `present_bytes` is the size of `present` in bytes.
+ * - `nulls` may be null. If it is not null, the call stores there how many results are null.
+ *
+ * Returns a status of columns, or
+ * - DUNKELVA_NOT_SERVED if `operation` is no value of enum dunkelva_operation,
+ * - DUNKELVA_TYPES_DIFFER if the columns differ in type or length,
+ * - DUNKELVA_NO_ROOM if `values_len` is less than the number of rows, or `present_bytes` is less
+ *   than (length + 7) / 8,
+ * - DUNKELVA_BAD_ARGUMENT if `values` or `present` is null and the columns have rows, if `values`
+ *   is not at a multiple of the size of an integer, or if `values` overlaps the integers of a
+ *   column. */
 int32_t dunkelva_arithmetic(enum dunkelva_operation operation, const struct ArrowSchema *left_type,
                             const struct ArrowArray *left, const struct ArrowSchema *right_type,
                             const struct ArrowArray *right, void *values, size_t values_len,
                             uint8_t *present, size_t present_bytes, uint64_t *nulls);
 
-/* The side of an operation on which a number stands. */
+/* The sides of an operation. */
 enum dunkelva_side { DUNKELVA_LEFT = 0, DUNKELVA_RIGHT = 1 };
 
-/* Calculates with a number and each row of a column in the same way. The status is
- * DUNKELVA_TYPES_DIFFER where the column's type has no such number. */
+/* Calculates with one number and each row of a column of numbers. If `side` is DUNKELVA_LEFT,
+ * `number` is the left operand and row i the right operand. If `side` is DUNKELVA_RIGHT, row i is
+ * the left operand and `number` the right operand.
+ *
+ * Results, `values`, `present` and `nulls` are as in `dunkelva_arithmetic`: the call writes as many
+ * integers as the column has rows to `values`, and (length + 7) / 8 bytes to `present`.
+ *
+ * Returns a status of columns, or
+ * - DUNKELVA_NOT_SERVED if `operation` is no value of enum dunkelva_operation, or `side` no value
+ *   of enum dunkelva_side,
+ * - DUNKELVA_TYPES_DIFFER if the type of the column has no value for `number`,
+ * - DUNKELVA_NO_ROOM if `values_len` is less than the number of rows, or `present_bytes` is less
+ *   than (length + 7) / 8,
+ * - DUNKELVA_BAD_ARGUMENT if `number` is null, if number->exists is 0, if `values` or `present` is
+ *   null and the column has rows, if `values` is not at a multiple of the size of an integer, or if
+ *   `values` overlaps the integers of the column. */
 int32_t dunkelva_arithmetic_number(enum dunkelva_operation operation, enum dunkelva_side side,
                                    const struct dunkelva_number *number,
                                    const struct ArrowSchema *type, const struct ArrowArray *array,
                                    void *values, size_t values_len, uint8_t *present,
                                    size_t present_bytes, uint64_t *nulls);
 
-/* Functions of a number. */
+/* Functions of one number. */
 enum dunkelva_sign_function { DUNKELVA_NEGATE = 0, DUNKELVA_ABSOLUTE = 1 };
 
-/* Negates each row of a column, or takes its distance from 0, in the same way: in a column of 8
- * bits both are -128 for -128. */
+/* Negates each row of a column of numbers, or takes the absolute value of each row. The absolute
+ * value is the distance from 0. A result wraps around in the type of the column: in a column of
+ * int8 both functions return -128 for -128. A result is null if the row is null.
+ *
+ * `values`, `present` and `nulls` are as in `dunkelva_arithmetic`: the call writes as many integers
+ * as the column has rows to `values`, and (length + 7) / 8 bytes to `present`.
+ *
+ * Returns a status of columns, or
+ * - DUNKELVA_NOT_SERVED if `sign` is no value of enum dunkelva_sign_function,
+ * - DUNKELVA_NO_ROOM if `values_len` is less than the number of rows, or `present_bytes` is less
+ *   than (length + 7) / 8,
+ * - DUNKELVA_BAD_ARGUMENT if `values` or `present` is null and the column has rows, if `values` is
+ *   not at a multiple of the size of an integer, or if `values` overlaps the integers of the
+ *   column. */
 int32_t dunkelva_sign(enum dunkelva_sign_function sign, const struct ArrowSchema *type,
                       const struct ArrowArray *array, void *values, size_t values_len,
                       uint8_t *present, size_t present_bytes, uint64_t *nulls);
 
-/* A state of the distinct values of columns, all of whose rows are null or numbers of one range. It
- * lies in the caller's memory and has no pointers but `bits`: it can be copied, stored and sent,
- * and merged with others elsewhere. It says nothing of how often a value came, or where. */
+/* A state collects the distinct values of columns of numbers. Each row of these columns must be
+ * null or in the range from `least` to `greatest`. A state records which numbers of the range and
+ * whether a null came, but not how often or in which rows.
+ *
+ * The struct and the memory of `bits` belong to the caller, and the library allocates nothing for a
+ * state. A state can be copied, stored and sent to another machine: copy the struct and the words
+ * of `bits`, and set `bits` of the copy to the copied words. */
 struct dunkelva_unique {
-  struct dunkelva_number least; /* the ends of the range; both exist */
-  struct dunkelva_number greatest;
-  uint64_t *bits;    /* bit i % 64 of bits[i / 64] is 1 where the number least + i was seen */
-  size_t words;      /* numbers in `bits` */
-  uint64_t has_null; /* not 0 where a null was seen */
+  struct dunkelva_number least;    /* the least number of the range */
+  struct dunkelva_number greatest; /* the greatest number of the range */
+  uint64_t *bits;    /* bit i % 64 of bits[i / 64] is 1 if the number least + i was seen */
+  size_t words;      /* the number of words of 64 bits in `bits` */
+  uint64_t has_null; /* not 0 if a null was seen */
 };
 
-/* Returns how many words of 64 bits a state of a range takes, or 0 where there is no such state:
- * the ends are not in order, or there are 2^64 - 1 numbers or more. */
+/* Returns how many words of 64 bits (8 bytes) the `bits` of a state of the range from `least` to
+ * `greatest` need. Returns 0 if there is no such state: `least` or `greatest` is null or has
+ * `exists` 0, `least` is greater than `greatest`, or the range has 2^64 - 1 or more numbers. */
 size_t dunkelva_unique_words(const struct dunkelva_number *least,
                              const struct dunkelva_number *greatest);
 
-/* Makes a state that has seen nothing. `bits` is memory of the caller, in which the state lies from
- * then on. */
+/* Initializes `state` as an empty state of the range from `least` to `greatest`. `bits` is memory
+ * of the caller for `words` words of 64 bits. The state uses the first `dunkelva_unique_words`
+ * words of `bits`, for as long as the state is used. The call sets these words to 0.
+ *
+ * Returns
+ * - DUNKELVA_NO_ROOM if `words` is less than the state needs,
+ * - DUNKELVA_BAD_ARGUMENT if `state` or `bits` is null, or if there is no such state, so that
+ *   `dunkelva_unique_words` returns 0. */
 int32_t dunkelva_unique_init(struct dunkelva_unique *state, const struct dunkelva_number *least,
                              const struct dunkelva_number *greatest, uint64_t *bits, size_t words);
 
-/* Adds the rows of a column of whole numbers to a state. The status is DUNKELVA_OUT_OF_RANGE where
- * a row is a number outside of the range, and DUNKELVA_TYPES_DIFFER where the column's type lacks
- * one of the ends; the state is then as it was. */
+/* Adds all rows of a column of numbers to `state`. After a status other than DUNKELVA_OK the state
+ * is unchanged: no row was added.
+ *
+ * Returns a status of columns, or
+ * - DUNKELVA_OUT_OF_RANGE if a row that is not null is outside of the range of the state,
+ * - DUNKELVA_TYPES_DIFFER if the type of the column has no value for an end of the range,
+ * - DUNKELVA_NO_ROOM if state->words is less than the range needs,
+ * - DUNKELVA_BAD_ARGUMENT if `state` is null, if state->bits is null, or if state->least and
+ *   state->greatest are not the ends of a range. */
 int32_t dunkelva_unique_append(struct dunkelva_unique *state, const struct ArrowSchema *type,
                                const struct ArrowArray *array);
 
-/* Adds to a state what another one has seen. They need one range, or else the status is
- * DUNKELVA_TYPES_DIFFER. */
+/* Adds the values of `other` to `state`, and the null of `other` if it has one. `other` is
+ * unchanged, and must not share memory with `state`.
+ *
+ * Returns
+ * - DUNKELVA_TYPES_DIFFER if the states have different ranges,
+ * - DUNKELVA_NO_ROOM if the `words` of a state are fewer than the range needs,
+ * - DUNKELVA_BAD_ARGUMENT if `state` or `other` is null, if the `bits` of a state are null, or if
+ *   its `least` and `greatest` are not the ends of a range. */
 int32_t dunkelva_unique_merge(struct dunkelva_unique *state, const struct dunkelva_unique *other);
 
-/* Counts the values that a state has seen, and the rows, which are one more where a null was seen.
- */
+/* Counts the distinct values of `state`. `values` gets the number of values without null. `rows`
+ * gets the number of values with null: one more than `values` if the state has a null. Both
+ * pointers are needed.
+ *
+ * Returns
+ * - DUNKELVA_NO_ROOM if state->words is less than the range needs,
+ * - DUNKELVA_BAD_ARGUMENT if `values`, `rows`, `state` or state->bits is null, or if state->least
+ *   and state->greatest are not the ends of a range. */
 int32_t dunkelva_unique_count(const struct dunkelva_unique *state, uint64_t *values,
                               uint64_t *rows);
 
-/* Writes the values that a state has seen, ascending, and whether a null was: 1 or 0. A value of a
- * signed type is (int64_t)values[i]. `values` takes as many numbers as were seen, and what lies
- * behind the last one stays as it is. */
+/* Writes the distinct values of `state` without null to `values`, in ascending order. For columns
+ * of signed integers the value is (int64_t)values[i]. The call writes as many numbers of 8 bytes as
+ * `dunkelva_unique_count` stores in its argument `values`; the memory after the last number is
+ * unchanged. `values_len` is the number of numbers for which `values` has memory. `values` may be
+ * null if `values_len` is 0. `has_null` gets 1 if the state has a null, and else 0. `has_null` is
+ * needed.
+ *
+ * Returns
+ * - DUNKELVA_NO_ROOM if `values_len` is less than the number of values, or state->words less than
+ *   the range needs,
+ * - DUNKELVA_BAD_ARGUMENT if `has_null`, `state` or state->bits is null, if `values` is null and
+ *   `values_len` is not 0, or if state->least and state->greatest are not the ends of a range. */
 int32_t dunkelva_unique_finish(const struct dunkelva_unique *state, uint64_t *values,
                                size_t values_len, uint64_t *has_null);
 
-/* Returns what a status means, in English. */
+/* Returns a short English text that says what `status` means. The text is static: never free it. */
 const char *dunkelva_status_text(int32_t status);
 
+/* The version of this header. */
 #define DUNKELVA_VERSION "0.1.0"
 
-/* Returns the version of the library, which is DUNKELVA_VERSION of its own header. */
+/* Returns the version of the library, as a static text: DUNKELVA_VERSION of the header with which
+ * the library was compiled. */
 const char *dunkelva_version(void);
 
 #ifdef __cplusplus

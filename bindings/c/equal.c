@@ -1,32 +1,34 @@
-/* Equality of two columns, a window of rows at a time. */
+/* Equality of two columns. The rows are compared a window at a time. */
 #include "shim.h"
 
 #include <stdlib.h>
 #include <string.h>
 
-/* Rows of two columns, and their results, which are kept here until all windows are done. */
+/* Rows of two columns, and their results. The results are written to the caller's memory only after
+ * all windows have succeeded. */
 struct pair {
   struct column left;
   struct column right;
   int64_t left_first;
   int64_t right_first;
   int64_t rows;
-  uint64_t *words;
-  uint64_t *comparisons; /* null, where they are not asked for */
+  uint64_t *words;       /* the results, a bit for each row */
+  uint64_t *comparisons; /* null if comparisons are not counted */
 };
 
-/* Returns whether a column has these rows. */
+/* Returns whether a column has `rows` rows from row `first` on. */
 static bool has_rows(const struct ArrowArray *array, int64_t first, int64_t rows) {
   return first >= 0 && rows >= 0 && first <= array->length && rows <= array->length - first;
 }
 
-/* Describes `count` rows of both columns, those behind the rows that are done. */
+/* Describes the next `count` rows of both columns. `done` rows were compared before. */
 static int32_t describe_window(struct pair *pair, int64_t done, int64_t count) {
   TRY(dunkelva_describe(&pair->left, pair->left_first + done, count));
   return dunkelva_describe(&pair->right, pair->right_first + done, count);
 }
 
-/* Compares the rows that were described. Numbers are not copied, unless comparisons are counted. */
+/* Compares the `count` described rows, and writes their bits to `out`. The kernel copies numbers
+ * only if comparisons are counted. */
 static int32_t compare_parts(struct pair *pair, uint64_t *out, int64_t count) {
   struct column *left = &pair->left;
   struct column *right = &pair->right;
@@ -43,12 +45,13 @@ static int32_t compare_parts(struct pair *pair, uint64_t *out, int64_t count) {
   return DUNKELVA_OK;
 }
 
+/* Compares all rows of a pair, window by window, and writes their bits to pair->words. */
 static int32_t compare_windows(struct pair *pair) {
   int64_t left_window = dunkelva_window(&pair->left);
   int64_t right_window = dunkelva_window(&pair->right);
   int64_t window = left_window < right_window ? right_window : left_window;
   int64_t done = 0;
-  do { /* a window of no rows is one too: the types are compared */
+  do { /* also once if there are no rows, so that the types are compared */
     int64_t count = window < pair->rows - done ? window : pair->rows - done;
     TRY(describe_window(pair, done, count));
     TRY(compare_parts(pair, pair->words + done / 64, count));
@@ -57,15 +60,15 @@ static int32_t compare_windows(struct pair *pair) {
   return DUNKELVA_OK;
 }
 
-/* How results are written: a bit for each row, or a byte. */
+/* The form of results: a bit for each row, or a byte for each row. */
 enum form { AS_BITS, AS_BYTES };
 
-/* Returns how many bytes the results of rows take. */
+/* Returns how many bytes the results of `rows` rows need. */
 static size_t room_for(enum form form, int64_t rows) {
   return (size_t)(form == AS_BITS ? bytes_for_bits(rows) : rows);
 }
 
-/* Writes the results of some rows, which are done. */
+/* Copies the results of a pair to `out`. All windows must be done. */
 static void give(const struct pair *pair, enum form form, uint8_t *out) {
   if (form == AS_BITS) {
     memcpy(out, pair->words, (size_t)bytes_for_bits(pair->rows));
@@ -79,8 +82,8 @@ static void give(const struct pair *pair, enum form form, uint8_t *out) {
   }
 }
 
-/* Compares the rows of two opened columns into memory of the pair. `out_bytes` is the room for
- * results. */
+/* Compares the rows of two opened columns, and stores the results in the pair. `out_bytes` is the
+ * size of the caller's memory for results. */
 static int32_t compare(struct pair *pair, enum form form, size_t out_bytes) {
   if (!dunkelva_same_formats(pair->left.type, pair->right.type) ||
       pair->left.extent.parts != pair->right.extent.parts) {
@@ -97,7 +100,7 @@ static int32_t compare(struct pair *pair, enum form form, size_t out_bytes) {
   return pair->words == NULL ? DUNKELVA_NO_MEMORY : compare_windows(pair);
 }
 
-/* Opens both columns, compares some of their rows, and writes the results. */
+/* Opens both columns, compares the rows of the pair, and writes the results to `out`. */
 static int32_t compare_columns(struct pair *pair, const struct ArrowSchema *left_type,
                                const struct ArrowArray *left, const struct ArrowSchema *right_type,
                                const struct ArrowArray *right, uint32_t flags, enum form form,
@@ -137,7 +140,7 @@ int32_t dunkelva_equal_rows(const struct ArrowSchema *left_type, const struct Ar
   return DUNKELVA_OK;
 }
 
-/* Compares all rows of two columns of one length. */
+/* Compares all rows of two columns. Returns DUNKELVA_TYPES_DIFFER if their lengths differ. */
 static int32_t compare_all(const struct ArrowSchema *left_type, const struct ArrowArray *left,
                            const struct ArrowSchema *right_type, const struct ArrowArray *right,
                            uint32_t flags, enum form form, uint8_t *out, size_t out_bytes) {

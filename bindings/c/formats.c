@@ -1,9 +1,9 @@
-/* Formats of the C data interface, and which kind of array keeps their rows. */
+/* Formats of the C data interface, and the kinds of arrays that store their rows. */
 #include "shim.h"
 
 #include <string.h>
 
-/* A format, or the beginning of formats that end with a text of their own (a time zone). */
+/* A format, or a prefix of formats that end with a time zone. */
 struct known_format {
   const char *text;
   enum kind kind;
@@ -28,7 +28,7 @@ static const struct known_format whole_formats[] = {
     {"Z", KIND_LARGE_BINARY, 0},
     {"u", KIND_UTF8, 0},
     {"U", KIND_LARGE_UTF8, 0},
-    /* dates, times of a day, spans: numbers of one unit */
+    /* dates, times of day, durations and intervals, as numbers of one unit */
     {"tdD", KIND_INT32, 0},
     {"tdm", KIND_INT64, 0},
     {"tts", KIND_INT32, 0},
@@ -46,11 +46,11 @@ static const struct known_format whole_formats[] = {
     {"+s", KIND_STRUCT, 0},
     {"vz", KIND_BINARY_VIEW, 0},
     {"vu", KIND_UTF8_VIEW, 0},
-    /* a map is the list of its entries, in their order */
+    /* a map is stored as a list of entries, and compared in the order of the entries */
     {"+m", KIND_LIST, 0},
 };
 
-/* Points in time, of one unit and one zone. */
+/* Timestamps: after the prefix comes a time zone, or nothing. */
 static const struct known_format formats_with_zone[] = {
     {"tss:", KIND_INT64, 0},
     {"tsm:", KIND_INT64, 0},
@@ -60,7 +60,8 @@ static const struct known_format formats_with_zone[] = {
 
 #define COUNT_OF(table) (sizeof(table) / sizeof *(table))
 
-/* Reads digits, and moves the text behind them. */
+/* Reads digits into `number`, and moves `text` to the first character after them. Returns false if
+ * there are no digits, or if the number is greater than INT32_MAX. */
 static bool read_digits(const char **text, int64_t *number) {
   const char *digit = *text;
   int64_t value = 0;
@@ -76,7 +77,7 @@ static bool read_digits(const char **text, int64_t *number) {
   return some;
 }
 
-/* Reads one character, and moves the text behind it. */
+/* Moves `text` by one character if `character` comes next. Returns false if another one comes. */
 static bool read_one(const char **text, char character) {
   if (**text != character) {
     return false;
@@ -85,7 +86,8 @@ static bool read_one(const char **text, char character) {
   return true;
 }
 
-/* Returns the layout of a format that ends with a size, such as "w:16". */
+/* Returns the layout of a format that ends with `size`, such as "w:16" with "16". Its kind is
+ * `kind`, or KIND_NONE if `size` is no number. */
 static struct layout sized_layout(const char *size, enum kind kind) {
   struct layout layout = {KIND_NONE, 0};
   int64_t width = 0;
@@ -96,8 +98,9 @@ static struct layout sized_layout(const char *size, enum kind kind) {
   return layout;
 }
 
-/* Returns the layout of decimals, "d:PRECISION,SCALE" or "d:PRECISION,SCALE,BITS". Those of one
- * format have one scale, so that they are equal where their numbers are. */
+/* Returns the layout of a format of decimals. `text` is "PRECISION,SCALE" or
+ * "PRECISION,SCALE,BITS". Two columns of the same format have the same scale, so their decimals are
+ * equal if their stored numbers are equal. */
 static struct layout decimal_layout(const char *text) {
   struct layout layout = {KIND_NONE, 0};
   int64_t precision = 0;
@@ -122,14 +125,14 @@ static struct layout decimal_layout(const char *text) {
     layout.kind = KIND_INT64;
   } else if (bits == 128) {
     layout.kind = KIND_INT128;
-  } else if (bits == 256) { /* the same numbers are the same bytes */
+  } else if (bits == 256) { /* equal numbers have equal bytes */
     layout.kind = KIND_FIXED_SIZE_BINARY;
     layout.width = 32;
   }
   return layout;
 }
 
-/* Returns the kind of a format that is known as it is written. */
+/* Returns the kind of a format in one of the two tables above, or KIND_NONE. */
 static enum kind known_kind(const char *format, uint32_t flags) {
   for (size_t i = 0; i < COUNT_OF(whole_formats); i++) {
     const struct known_format *known = &whole_formats[i];
@@ -146,7 +149,8 @@ static enum kind known_kind(const char *format, uint32_t flags) {
   return KIND_NONE;
 }
 
-/* Returns the kind that keeps texts as bytes. Texts are equal where their bytes are. */
+/* Returns the kind of byte strings for a kind of texts, and any other kind unchanged. Two texts are
+ * equal if their bytes are equal. */
 static enum kind without_text(enum kind kind) {
   switch (kind) {
   case KIND_UTF8:
@@ -171,7 +175,7 @@ struct layout dunkelva_layout(const char *format, uint32_t flags) {
   if (strncmp(format, "d:", 2) == 0) {
     return decimal_layout(format + 2);
   }
-  if (strcmp(format, "tin") == 0) { /* months, days and nanoseconds: nothing is carried over */
+  if (strcmp(format, "tin") == 0) { /* one month and 30 days are not equal */
     layout.kind = KIND_FIXED_SIZE_BINARY;
     layout.width = 16;
     return layout;

@@ -1,8 +1,9 @@
-/* Kernels for two levels of processors. The library holds the proved kernels twice, compiled for
- * x86-64-v2 and for x86-64-v3 (AVX2, BMI2, FMA ..), and which of the two run is chosen once.
+/* The choice between two levels of processors. The library has the proved kernels twice: compiled
+ * for x86-64-v2, and for x86-64-v3 (AVX2, BMI2, FMA and others). The level is chosen once, when the
+ * library is loaded.
  *
- * packaging/make_library puts the level after the names of their exports. The functions below have
- * the names of parts.h, and hand each call on as it is. */
+ * packaging/make_library appends the level to the names of the exports. The functions below have
+ * the names of parts.h, and pass each call unchanged to the kernel of the chosen level. */
 #include "shim.h"
 
 #include <cpuid.h>
@@ -30,13 +31,13 @@ __typeof__(dunkelva_state_merge) dunkelva_state_merge_v2, dunkelva_state_merge_v
 __typeof__(dunkelva_state_count) dunkelva_state_count_v2, dunkelva_state_count_v3;
 __typeof__(dunkelva_state_list) dunkelva_state_list_v2, dunkelva_state_list_v3;
 
-/* Whether the kernels for x86-64-v3 run. It is written once, while the library is loaded, or before
- * `main` where it is linked statically. Calls come later, in whatever thread, so they need no lock.
- * A constructor that ran even earlier finds the other level, which all processors that are served
- * have. */
+/* True if the kernels for x86-64-v3 are used. The variable is written once, while the library is
+ * loaded (before `main` if it is linked statically), and only read by later calls, so no lock is
+ * needed. A constructor that calls the library even earlier uses x86-64-v2, which every supported
+ * processor has. */
 static bool takes_v3 = false;
 
-/* Reads what the processor has, and what the system saves of it. */
+/* Reads the features of this processor, and which registers the operating system saves. */
 static struct processor read_processor(void) {
   struct processor found = {0, 0, 0, 0};
   uint32_t a = 0;
@@ -52,7 +53,7 @@ static struct processor read_processor(void) {
   if (__get_cpuid(0x80000001U, &a, &b, &c, &d) != 0) {
     found.extended = c;
   }
-  if ((found.first & bit_OSXSAVE) != 0) { /* else there is no such instruction */
+  if ((found.first & bit_OSXSAVE) != 0) { /* without this bit there is no xgetbv */
     __asm__ volatile("xgetbv" : "=a"(found.saved), "=d"(d) : "c"(0));
   }
   return found;
@@ -61,13 +62,13 @@ static struct processor read_processor(void) {
 bool dunkelva_has_v3(const struct processor *processor) {
   const uint32_t first = bit_FMA | bit_MOVBE | bit_OSXSAVE | bit_AVX | bit_F16C;
   const uint32_t seventh = bit_BMI | bit_AVX2 | bit_BMI2;
-  const uint32_t saved = 1U << 1 | 1U << 2; /* the registers of SSE, and their upper halves */
+  const uint32_t saved = 1U << 1 | 1U << 2; /* SSE registers, upper halves of AVX */
   return (processor->first & first) == first && (processor->seventh & seventh) == seventh &&
          (processor->extended & bit_LZCNT) != 0 && (processor->saved & saved) == saved;
 }
 
-/* Chooses the level. DUNKELVA_LEVEL=v2 in the environment forces the lower one. Any other value
- * changes nothing, so that no level is taken which the processor lacks. */
+/* Chooses the level. DUNKELVA_LEVEL=v2 in the environment forces x86-64-v2. Any other value changes
+ * nothing, so a level that the processor lacks can't be forced. */
 __attribute__((constructor)) static void choose_level(void) {
   const char *forced = getenv("DUNKELVA_LEVEL");
   struct processor processor = read_processor();
@@ -76,7 +77,7 @@ __attribute__((constructor)) static void choose_level(void) {
 
 bool dunkelva_takes_v3(void) { return takes_v3; }
 
-/* The arguments of ROOM_FOR_NUMBERS. */
+/* The arguments for the parameters ROOM_FOR_NUMBERS. */
 #define ROOM                                                                                  \
   i8s, i8s_len, i16s, i16s_len, i32s, i32s_len, i64s, i64s_len, u8s, u8s_len, u16s, u16s_len, \
       u32s, u32s_len, u64s, u64s_len, present, present_len, nulls

@@ -1,20 +1,21 @@
-/* What the proved library takes: an array as a row of parts, and its exports. A slice is passed as
- * a pointer and a length.
+/* The exports of the proved kernels, and the parts that they take. A slice of Rattle is passed as a
+ * pointer and a length.
  *
- * A part is one array of a tree. Each part comes before the parts inside it: a list before its
- * items, a struct before its columns in order, a dictionary before its entries. */
+ * A part describes one array of a column. The part of an array comes before the parts of the arrays
+ * in it: a list before its items, a struct before its fields in order, a dictionary before its
+ * entries. */
 #ifndef DUNKELVA_PARTS_H
 #define DUNKELVA_PARTS_H
 
 #include "dunkelva.h"
 
-/* Elements of one type at a good address. `data` is never null. */
+/* `len` elements of one type. `data` is never null, and is a multiple of the size of an element. */
 struct slice {
   const void *data;
   size_t len;
 };
 
-/* What an array holds. The proved library knows kinds by these numbers. */
+/* The kinds of arrays. The proved kernels use the same numbers. */
 enum kind {
   KIND_NONE = 0,
   KIND_NULL = 1,
@@ -50,22 +51,22 @@ enum kind {
   KIND_UTF8_VIEW = 31
 };
 
-/* One array of a tree, without the arrays inside it. A kind reads some of the slices; the others
- * are empty. */
+/* A window of rows of one array, without the arrays in it. Each kind has its own slices; all other
+ * slices are empty. */
 struct part {
   uint32_t kind;
-  uint32_t children; /* arrays directly inside */
+  uint32_t children; /* the number of arrays directly in this array */
   size_t rows;
-  size_t width;     /* bytes or items a row, where all rows have one size */
-  size_t first_bit; /* of their first byte, in which `present` and truth values begin */
-  size_t base;      /* the offset to which the first lent byte or item belongs */
-  struct slice name;
-  struct slice present; /* a bit a row; empty where all rows are present */
+  size_t width;         /* bytes or items of a row, if all rows have the same size */
+  size_t first_bit;     /* the first bit of `present` and of truth values, in their first byte */
+  size_t base;          /* the offset of the first byte or item in the slices */
+  struct slice name;    /* the name of a field of a struct, else empty */
+  struct slice present; /* the validity, a bit for each row; empty if no row is null */
   struct slice i8s, i16s, i32s, i64s;
-  struct slice u8s; /* also truth values, byte strings, and views of 16 bytes */
+  struct slice u8s; /* also truth values as bits, byte strings, and views of 16 bytes */
   struct slice u16s, u32s;
-  struct slice u64s;    /* also numbers of 128 bits, as pairs with the low half first */
-  struct slice buffers; /* of slices of bytes: what views point to */
+  struct slice u64s;    /* also numbers of 128 bits, as pairs with the lower half first */
+  struct slice buffers; /* a slice of slices: the buffers to which views point */
 };
 
 int32_t dunkelva_parts_equal(const struct part *left, size_t left_len, const struct part *right,
@@ -75,7 +76,7 @@ int32_t dunkelva_parts_equal(const struct part *left, size_t left_len, const str
 int32_t dunkelva_parts_are_null(const struct part *parts, size_t len, uint64_t *out, size_t out_len,
                                 uint64_t *count);
 
-/* These take one part each. */
+/* The calls up to `dunkelva_part_count_bits` take one part for each column. */
 int32_t dunkelva_parts_equal_lent(const struct part *left, const struct part *right, uint64_t *out,
                                   size_t out_len);
 int32_t dunkelva_parts_compare(uint32_t test, const struct part *left, const struct part *right,
@@ -92,8 +93,9 @@ int32_t dunkelva_part_reduce_bits(uint32_t join, const struct part *part,
 int32_t dunkelva_part_count_bits(uint32_t bits, const struct part *part, uint32_t *counts,
                                  size_t counts_len);
 
-/* Room for results: a slice for each type of numbers, bits of those that are present, and how many
- * are not. */
+/* The parameters for results of arithmetic: a slice for each type of integers, the validity of the
+ * results as bits, and the number of results that are null. Only the slice of the column's own type
+ * is not empty. */
 #define ROOM_FOR_NUMBERS                                                                       \
   int8_t *i8s, size_t i8s_len, int16_t *i16s, size_t i16s_len, int32_t *i32s, size_t i32s_len, \
       int64_t *i64s, size_t i64s_len, uint8_t *u8s, size_t u8s_len, uint16_t *u16s,            \
@@ -106,8 +108,9 @@ int32_t dunkelva_part_arithmetic_number(uint32_t operation, uint32_t side, uint6
                                         uint64_t high, const struct part *part, ROOM_FOR_NUMBERS);
 int32_t dunkelva_part_sign(uint32_t sign, const struct part *part, ROOM_FOR_NUMBERS);
 
-/* These take a state of distinct values: the ends of its range, its bits, and whether a null was
- * seen. Status 7 is a range that is none, and status 8 a row outside of it. */
+/* The calls below take a state of distinct values: the ends of its range, its bits, and a number
+ * that is not 0 if a null was seen. They return 7 (DUNKELVA_BAD_ARGUMENT) if the ends make no
+ * range, and 8 (DUNKELVA_OUT_OF_RANGE) if a row is outside of the range. */
 int32_t dunkelva_state_append(const struct part *part, const struct dunkelva_number *least,
                               const struct dunkelva_number *greatest, uint64_t *words,
                               size_t words_len, uint64_t *has_null);

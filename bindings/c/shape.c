@@ -1,10 +1,10 @@
-/* The shape of a column's structs: counts, pointers and sizes that the rest of the shim relies on.
+/* Checks of the structs of a column: the counts, pointers and sizes on which the other files rely.
  */
 #include "shim.h"
 
 #include <string.h>
 
-/* Returns the number of buffers of a kind, for views the least number. */
+/* Returns how many buffers an array of a kind has. For views this is the least number. */
 static int64_t buffer_count(enum kind kind) {
   switch (kind) {
   case KIND_NULL:
@@ -16,7 +16,7 @@ static int64_t buffer_count(enum kind kind) {
   case KIND_LARGE_BINARY:
   case KIND_UTF8:
   case KIND_LARGE_UTF8:
-  case KIND_BINARY_VIEW: /* the last one has the lengths of those between */
+  case KIND_BINARY_VIEW: /* the last buffer has the lengths of the buffers to which views point */
   case KIND_UTF8_VIEW:
     return 3;
   default:
@@ -26,7 +26,7 @@ static int64_t buffer_count(enum kind kind) {
 
 static bool is_view(enum kind kind) { return kind == KIND_BINARY_VIEW || kind == KIND_UTF8_VIEW; }
 
-/* Returns whether an array has the number of buffers that its kind needs. */
+/* Returns whether an array has as many buffers as its kind needs. */
 static bool has_buffers(const struct ArrowArray *array, enum kind kind) {
   int64_t count = buffer_count(kind);
   if (is_view(kind) ? array->n_buffers < count : array->n_buffers != count) {
@@ -35,7 +35,7 @@ static bool has_buffers(const struct ArrowArray *array, enum kind kind) {
   return array->n_buffers == 0 || array->buffers != NULL;
 }
 
-/* Returns whether both structs have the number of children that a kind needs. */
+/* Returns whether both structs have as many children as the kind needs. */
 static bool has_children(const struct ArrowSchema *type, const struct ArrowArray *array,
                          enum kind kind) {
   int64_t count = 0;
@@ -50,7 +50,8 @@ static bool has_children(const struct ArrowSchema *type, const struct ArrowArray
   return count == 0 || (type->children != NULL && array->children != NULL);
 }
 
-/* Returns whether the places of all rows are numbers of 64 bits. */
+/* Returns whether the length and the offset of an array are not negative, and small enough that the
+ * index of each bit and byte of its buffers fits into 64 bits. */
 static bool has_places(const struct ArrowArray *array, int64_t width) {
   if (array->length < 0 || array->offset < 0 || array->length > MOST_ROWS - array->offset) {
     return false;
@@ -58,12 +59,13 @@ static bool has_places(const struct ArrowArray *array, int64_t width) {
   return width == 0 || array->offset + array->length <= MOST_ROWS / width;
 }
 
-/* Returns whether keys of a dictionary can have this format. */
+/* Returns whether a format is one of the integers, which the keys of a dictionary need. */
 static bool is_key(const char *format) {
   return strlen(format) == 1 && strchr("cCsSiIlL", *format) != NULL;
 }
 
-/* Adds the buffers of views to an extent. The last buffer has their lengths. */
+/* Checks the buffers to which views point, and adds their number to `extent`. The last buffer of
+ * the array has their lengths. */
 static int32_t measure_views(const struct ArrowArray *array, struct extent *extent) {
   int64_t count = array->n_buffers - 3;
   const uint8_t *lengths = array->buffers[array->n_buffers - 1];

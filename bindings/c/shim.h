@@ -1,9 +1,10 @@
-/* What the files of the shim share. The shim makes parts of columns of the Arrow C data interface,
- * and hands them to the proved library, a window of rows at a time.
+/* Declarations that the C files of the library share. These files, the shim, describe a column of
+ * the Arrow C data interface as a list of parts (parts.h), and pass the parts to the proved
+ * kernels. Most types are passed a window of rows at a time.
  *
- * It checks what it has to read itself: the shape of the structs, formats, and the offsets at both
- * ends of a window. Everything else (the other offsets, keys, views, texts, lengths) the proved
- * library checks. */
+ * The shim checks what it reads itself: the counts and pointers of the structs, the formats, and
+ * the first and the last offset of a window. The proved kernels check everything else: the other
+ * offsets, keys, views, texts and lengths. */
 #ifndef DUNKELVA_SHIM_H
 #define DUNKELVA_SHIM_H
 
@@ -12,19 +13,20 @@
 
 #include <stdbool.h>
 
-/* Levels of types in types, and arrays in a column. */
+/* The most levels of nested types, and the most arrays in a column. */
 #define MOST_LEVELS 64
 #define MOST_PARTS ((size_t)1 << 20)
 
-/* Rows and offsets of an array, so that a place in bytes or bits is a number of 64 bits. */
+/* The greatest sum of length and offset of an array, and the greatest number of bytes or items of
+ * its rows. So the index of a byte or a bit fits into 64 bits. */
 #define MOST_ROWS (INT64_MAX / 64)
 
-/* Rows that are handed over at a time, where nothing asks for more. */
-#ifndef WINDOW_ROWS /* tests set less */
+/* The rows of a window. A column with a longer dictionary has longer windows. */
+#ifndef WINDOW_ROWS /* tests set fewer rows */
 #define WINDOW_ROWS 16384
 #endif
 
-/* Returns from a function where a call fails. */
+/* Makes a call, and returns its status from the enclosing function if it is not DUNKELVA_OK. */
 #define TRY(call)                        \
   do {                                   \
     int32_t status_of_call = (call);     \
@@ -33,49 +35,54 @@
     }                                    \
   } while (0)
 
-/* How the rows of a format are kept. */
+/* The kind of array that stores the rows of a format. */
 struct layout {
-  enum kind kind; /* of the keys, for a dictionary; KIND_NONE for a format that is not served */
-  int64_t width;  /* bytes or items a row, where all rows have one size */
+  enum kind kind; /* for a dictionary, that of its keys; KIND_NONE if not served */
+  int64_t width;  /* bytes or items of a row, if all rows have the same size; else 0 */
 };
 
-/* Returns how many bytes hold a number of bits. */
+/* Returns how many bytes are needed for `bits` bits. */
 static inline int64_t bytes_for_bits(int64_t bits) { return bits / 8 + (bits % 8 != 0); }
 
-/* Returns how many words of 64 bits hold a number of bits. */
+/* Returns how many words of 64 bits are needed for `bits` bits. */
 static inline int64_t words_for_bits(int64_t bits) { return bits / 64 + (bits % 64 != 0); }
 
-/* Refuses flags that do not exist. */
+/* Returns DUNKELVA_BAD_ARGUMENT if `flags` has a bit that is no flag, and else DUNKELVA_OK. */
 int32_t dunkelva_check_flags(uint32_t flags);
 
-/* Reads a format. */
+/* Returns the layout of a format. Its kind is KIND_NONE if the format is not served with these
+ * flags. */
 struct layout dunkelva_layout(const char *format, uint32_t flags);
 
-/* Returns whether two columns of these types can be compared: they have the same tree of formats,
- * letter for letter. Both have passed `dunkelva_measure`. */
+/* Returns whether two types have the same formats at all levels. Names of fields are not compared.
+ * Both types must have passed `dunkelva_measure`. */
 bool dunkelva_same_formats(const struct ArrowSchema *left, const struct ArrowSchema *right);
 
-/* What it takes to hand a column over. */
+/* The memory and the windows that a column needs. */
 struct extent {
-  size_t parts;
-  size_t slices;   /* buffers of views */
-  int64_t entries; /* of the longest dictionary */
+  size_t parts;    /* arrays in the column */
+  size_t slices;   /* buffers to which views point */
+  int64_t entries; /* rows of the longest dictionary */
 };
 
-/* Returns the length of a buffer of views, in bytes. */
+/* Returns the length in bytes of a buffer to which views point. `buffer` counts these buffers from
+ * 0. */
 int64_t dunkelva_view_length(const struct ArrowArray *array, int64_t buffer);
 
-/* Checks the structs of a column, and adds what it takes to an extent. `levels` are left. */
+/* Checks the structs of a column, and adds what the column needs to `extent`. `levels` is the
+ * number of nested levels that the column may have. Fails with DUNKELVA_BAD_STRUCTS or
+ * DUNKELVA_NOT_SERVED. */
 int32_t dunkelva_measure(const struct ArrowSchema *type, const struct ArrowArray *array,
                          uint32_t flags, int levels, struct extent *extent);
 
-/* A copy of elements that lie at a bad address, with the copies that were made before it. */
+/* A copy of elements whose address is not a multiple of their size. The copies of a column are a
+ * linked list, the latest one first. */
 struct copy {
   struct copy *next;
-  uint64_t start[]; /* its bytes begin here */
+  uint64_t start[]; /* the copied bytes */
 };
 
-/* One column of a call: what it is, and where its parts are put. */
+/* One column of a call, with memory for its parts. */
 struct column {
   const struct ArrowSchema *type;
   const struct ArrowArray *array;
@@ -86,24 +93,27 @@ struct column {
   struct copy *copies;
 };
 
-/* Checks a column and takes memory for its parts. Each opened column is closed, also where this
- * fails. */
+/* Checks the structs of a column, and allocates memory for its parts. The caller must call
+ * `dunkelva_close` afterwards, also after a failure. */
 int32_t dunkelva_open(struct column *column, const struct ArrowSchema *type,
                       const struct ArrowArray *array, uint32_t flags);
 
-/* Gives back the memory of a column. */
+/* Frees the memory of a column: its parts, slices and copies. */
 void dunkelva_close(struct column *column);
 
-/* Describes rows of a column as parts, those from row `first` on. They last until the next call. */
+/* Describes `rows` rows of a column, from row `first` on, as parts. The parts are valid until the
+ * next call of `dunkelva_describe` or `dunkelva_close` for this column. */
 int32_t dunkelva_describe(struct column *column, int64_t first, int64_t rows);
 
-/* Returns whether a column, which is described, has numbers of 8 to 64 bits. */
+/* Returns whether a column stores integers of 8 to 64 bits, and is no dictionary. Floats that are
+ * compared by their bits count as integers. The column must be described. */
 bool dunkelva_is_numbers(const struct column *column);
 
-/* Returns how many rows of a column are handed over at a time, a multiple of 64. */
+/* Returns how many rows of a column make a window. The number is a multiple of 64. */
 int64_t dunkelva_window(const struct column *column);
 
-/* What a processor has, as the instruction cpuid says, and which registers the system saves. */
+/* The features of a processor, as the instruction cpuid returns them, and the registers that the
+ * operating system saves. */
 struct processor {
   uint32_t first;    /* ecx of leaf 1 */
   uint32_t seventh;  /* ebx of leaf 7 */
@@ -111,13 +121,15 @@ struct processor {
   uint32_t saved;    /* the lower half of XCR0 */
 };
 
-/* Returns whether a processor runs code for x86-64-v3. */
+/* Returns whether a processor can run code that was compiled for x86-64-v3. */
 bool dunkelva_has_v3(const struct processor *processor);
 
-/* Returns whether the kernels for x86-64-v3 run, in a library that has them. */
+/* Returns whether calls use the kernels for x86-64-v3. Only a library with both levels has this
+ * function. */
 bool dunkelva_takes_v3(void);
 
-/* Writes 64 bytes for each of some words: 0 or 1 for each bit. */
+/* Writes each bit of `count` words as a byte, 0 or 1, the lowest bit of a word first. `bytes` has
+ * memory for 64 * count bytes. */
 void dunkelva_spread(const uint64_t *words, size_t count, uint8_t *bytes);
 
 #endif

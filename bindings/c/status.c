@@ -1,4 +1,4 @@
-/* Texts of statuses, and the version. */
+/* The check of flags, the texts of statuses, and the version. */
 #include "shim.h"
 
 int32_t dunkelva_check_flags(uint32_t flags) {
@@ -13,7 +13,8 @@ const char *dunkelva_status_text(int32_t status) {
   case DUNKELVA_BAD_ARRAY:
     return "the buffers make no array";
   case DUNKELVA_TYPES_DIFFER:
-    return "the columns differ in type or length";
+    return "the columns differ in type or length, the type of the column has no such number, or "
+           "the states have different ranges";
   case DUNKELVA_NO_ROOM:
     return "the result has no room";
   case DUNKELVA_NO_MEMORY:

@@ -1,13 +1,13 @@
-/* States of distinct values. A state lies in the caller's memory, and the proved library changes it
- * there. */
+/* States of distinct values. A state is in the caller's memory, where the proved kernels change it.
+ */
 #include "shim.h"
 
-/* Returns whether a range has a first and a last number. */
+/* Returns whether both ends of a range are given. */
 static bool has_ends(const struct dunkelva_number *least, const struct dunkelva_number *greatest) {
   return least != NULL && greatest != NULL && least->exists != 0 && greatest->exists != 0;
 }
 
-/* Returns whether a state can be read. */
+/* Returns whether a state has bits and both ends of its range. */
 static bool is_state(const struct dunkelva_unique *state) {
   return state != NULL && state->bits != NULL && has_ends(&state->least, &state->greatest);
 }
@@ -21,8 +21,8 @@ size_t dunkelva_unique_words(const struct dunkelva_number *least,
   if (!has_ends(least, greatest)) {
     return 0;
   }
-  /* The sign is the highest bit of the higher half: with that bit turned over numbers are in the
-   * order of their halves. */
+  /* The sign is the highest bit of the upper half. If this bit is inverted, the numbers have the
+   * order of unsigned numbers: by the upper half first, then by the lower half. */
   uint64_t sign = (uint64_t)1 << 63;
   uint64_t least_high = least->high ^ sign;
   uint64_t greatest_high = greatest->high ^ sign;
@@ -57,8 +57,8 @@ int32_t dunkelva_unique_init(struct dunkelva_unique *state, const struct dunkelv
   return DUNKELVA_OK;
 }
 
-/* Describes all rows of a column, where all are whole numbers of 8 to 64 bits. The caller closes
- * it, also where this fails. */
+/* Opens a column and describes all its rows. Returns DUNKELVA_NOT_SERVED if the column does not
+ * store integers of 8 to 64 bits. The caller must close the column, also after a failure. */
 static int32_t open_numbers(struct column *column, const struct ArrowSchema *type,
                             const struct ArrowArray *array) {
   TRY(dunkelva_open(column, type, array, 0));
