@@ -2,8 +2,8 @@
 //!
 //! The folder is the one that DUNKELVA_LIB_DIR names, else the one that pkg-config knows, else
 //! out/library of the checkout that this package is in. With DUNKELVA_STATIC=1 libdunkelva.a is
-//! linked, with DUNKELVA_STATIC=0 libdunkelva.so; else the first of the two that is there. With
-//! DOCS_RS none is looked for, since documentation needs no library.
+//! linked, with DUNKELVA_STATIC=0 libdunkelva.so; else the first of the two that exists. If DOCS_RS
+//! is set, no library is looked for: `cargo doc` and `cargo check` need none.
 
 use std::env;
 use std::path::{Path, PathBuf};
@@ -102,7 +102,8 @@ fn not_found(kinds: &[&str], folders: &[PathBuf]) -> String {
         "dunkelva: there is no {} in\n{}\n\
          Run `make library` in a checkout of Dunkelva, which needs the Rattle toolchain. Then run\n\
          `make install-library`, so that pkg-config finds the library, or set DUNKELVA_LIB_DIR\n\
-         to the folder out/library of the checkout. DOCS_RS=1 makes the documentation without it.",
+         to the folder out/library of the checkout. DOCS_RS=1 is enough for `cargo doc` and\n\
+         `cargo check`.",
         files.join(" or "),
         places.join("\n")
     )

@@ -7,7 +7,7 @@ use crate::types::Integer;
 use crate::{Error, Numbers};
 use std::os::raw::c_uint;
 
-/// An operation on two numbers. Results are wrapped to the type: in `i8` 100 and 100 are -56.
+/// An operation on two numbers. Results wrap around in the number type: in `i8` 100 + 100 is -56.
 #[derive(Clone, Copy, Debug, PartialEq, Eq, Hash)]
 pub enum Operation {
     /// The sum.
@@ -16,19 +16,19 @@ pub enum Operation {
     Sub = 1,
     /// The product.
     Mul = 2,
-    /// The quotient, rounded down: -7 by 2 is -4. It is null where the divisor is 0.
+    /// The quotient, rounded down: -7 divided by 2 is -4. Null if the divisor is 0.
     FloorDiv = 3,
-    /// The quotient, rounded toward 0, as `/` of Rust is: -7 by 2 is -3. It is null where the
-    /// divisor is 0.
+    /// The quotient, rounded toward 0, like Rust's `/`: -7 divided by 2 is -3. Null if the divisor
+    /// is 0.
     TruncDiv = 4,
-    /// The remainder of the division that rounds down: of -7 by 2 it is 1. It has the sign of the
-    /// divisor, or is 0, unlike `%` of Rust. It is null where the divisor is 0.
+    /// The remainder of the division that rounds down: -7 modulo 2 is 1. Unlike the result of
+    /// Rust's `%`, the remainder is 0 or has the sign of the divisor. Null if the divisor is 0.
     Mod = 5,
 }
 
-/// A side of an operation: numbers row by row, or one number for all rows.
+/// One side of an operation: a column of numbers, or one number for all rows.
 ///
-/// Calls take what converts into it: `&Numbers<T>`, or a number of type `T`.
+/// `&Numbers<T>` and numbers of type `T` convert into an operand.
 #[derive(Clone, Copy, Debug)]
 pub enum Operand<'x, T: Integer> {
     /// A number for each row, or null.
@@ -49,18 +49,20 @@ impl<T: Integer> From<T> for Operand<'_, T> {
     }
 }
 
-/// Calculates with numbers of one type, row by row, and wraps results to the type. A result is null
-/// where one of the two rows is, or where the divisor is 0.
+/// Calculates with two columns of numbers row by row, or with a column and one number. Results wrap
+/// around in the number type. A result is null if one of the two rows is null, or if the divisor
+/// is 0.
 ///
-/// One side can be a number, which stands for all rows. Two numbers are one row.
+/// If both sides are numbers, the result has one row.
 ///
-/// Dates, times and decimals of 32 and 64 bits are taken as the numbers that they are kept as, of
-/// decimals without their scale. The result has plain numbers.
+/// For dates, times, and decimals of 32 and 64 bits, the call calculates with the stored integers;
+/// the scale of decimals is ignored. The result has the format of plain integers.
 ///
 /// # Errors
 ///
-/// [`Error::LengthMismatch`], if both sides have rows, but not the same number of them;
-/// [`Error::TypeMismatch`], if the two sides have other formats; [`Error::NoMemory`].
+/// - [`Error::LengthMismatch`], if both sides are columns, and their lengths differ.
+/// - [`Error::TypeMismatch`], if both sides are columns, and their formats differ.
+/// - [`Error::NoMemory`], if an allocation fails.
 ///
 /// # Examples
 ///
@@ -139,11 +141,12 @@ pub(crate) fn copied<T: Integer>(
     with_number(typed, rows, (Operation::Add, Side::Right), T::default())
 }
 
-/// Negates each row. In `i8` -128 is the negative of -128.
+/// Negates each row. Results wrap around: in `i8` the negative of -128 is -128. Null rows stay
+/// null.
 ///
 /// # Errors
 ///
-/// [`Error::NoMemory`].
+/// [`Error::NoMemory`], if an allocation fails.
 ///
 /// # Examples
 ///
@@ -158,11 +161,12 @@ pub fn wrapping_neg<T: Integer>(rows: &Numbers<'_, T>) -> Result<Numbers<'static
     signed(0, rows)
 }
 
-/// Takes the distance of each row from 0. In `i8` it is -128 for -128.
+/// Returns the absolute value of each row. Results wrap around: in `i8` the absolute value of -128
+/// is -128. Null rows stay null.
 ///
 /// # Errors
 ///
-/// [`Error::NoMemory`].
+/// [`Error::NoMemory`], if an allocation fails.
 ///
 /// # Examples
 ///
@@ -187,12 +191,12 @@ fn signed<T: Integer>(sign: c_uint, rows: &Numbers<'_, T>) -> Result<Numbers<'st
 macro_rules! operations {
     ($($name:ident: $operation:ident, $what:literal, $call:literal, $result:literal;)*) => {
         $(
-            #[doc = concat!($what, ", row by row, and wraps the results: [`arithmetic`] with")]
-            #[doc = concat!("[`Operation::", stringify!($operation), "`].")]
+            #[doc = concat!($what, ", row by row. Results wrap around. The call is [`arithmetic`]")]
+            #[doc = concat!("with [`Operation::", stringify!($operation), "`].")]
             ///
             /// # Errors
             ///
-            /// Those of [`arithmetic`].
+            /// The errors of [`arithmetic`].
             ///
             /// # Examples
             ///
@@ -222,6 +226,6 @@ operations! {
         "[Some(50), None, Some(-4)]";
     wrapping_trunc_div: TruncDiv, "Divides numbers, rounding toward 0", "(&rows, 2)",
         "[Some(50), None, Some(-3)]";
-    wrapping_mod: Mod, "Finds the remainders of the division that rounds down", "(&rows, 2)",
+    wrapping_mod: Mod, "Returns the remainders of the division that rounds down", "(&rows, 2)",
         "[Some(0), None, Some(1)]";
 }

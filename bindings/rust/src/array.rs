@@ -1,4 +1,4 @@
-//! Columns that are lent to the library.
+//! The type of columns.
 #![forbid(unsafe_code)]
 
 use crate::lent::{shared, Content, Lent, Shared};
@@ -11,28 +11,28 @@ use std::ffi::CString;
 use std::fmt;
 use std::sync::Arc;
 
-/// A column: rows of one type, in the layout of Arrow.
+/// A column: rows of one type, in the memory layout of Arrow.
 ///
-/// An array borrows the slices that it is made of, and owns the vectors and masks, none of which it
-/// copies: [`Buffer`](crate::Buffer) and [`BitBuffer`] say what converts into numbers, offsets,
-/// keys, bytes, truth values and validities. What [`text_views`](Array::text_views),
-/// [`binary_views`](Array::binary_views) and `from_raw` take is borrowed always. What is collected,
-/// or taken by [`from_texts`](Array::from_texts) and its like, is copied, and the copy is owned. An
-/// array that owns all that it is made of is an `Array<'static>`, which a function can return.
+/// An array borrows the slices and owns the vectors and masks from which it is made, without a
+/// copy. [`Buffer`](crate::Buffer) and [`BitBuffer`] list the types that are borrowed or owned. The
+/// slices given to [`text_views`](Array::text_views), [`binary_views`](Array::binary_views) and
+/// `from_raw` are always borrowed. `collect`, [`from_texts`](Array::from_texts),
+/// [`from_binary`](Array::from_binary) and their variants copy the rows, and the array owns the
+/// copy. An array that borrows nothing is an `Array<'static>`, which a function can return.
 ///
-/// A validity is copied where it does not begin at the bit at which the rows begin, as those of a
-/// [`slice`](Array::slice). The calls that compare rows read numbers where they lie, and copy rows
-/// of other types, in blocks of about 16,384.
+/// A validity is copied if its first bit is not at the same position in its byte as the first row
+/// of the array, such as after [`slice`](Array::slice). Calls that compare rows read numbers in
+/// place, and copy rows of other types in blocks of about 16,384 rows.
 ///
-/// The rows of an array can be compared, but not read back. [`to_numbers`](Array::to_numbers) gives
-/// access to numbers.
+/// The rows of an array can be compared, but not read back, except numbers:
+/// [`to_numbers`](Array::to_numbers).
 ///
-/// What a call would read is checked when an array is made, so that no call reads past the end of a
-/// slice: offsets rise and end within their bytes or items, a validity has a bit for each row, the
-/// fields of a struct have its rows.
+/// Lengths are checked when an array is made, so no call reads past the end of a slice. Offsets
+/// must not decrease, and must end within the bytes or items. A validity needs a bit for each row,
+/// and the fields of a struct need as many rows as the struct.
 ///
-/// An array can be cloned at little cost, sent to other threads and used by many at once. It cannot
-/// outlive what it borrows:
+/// A clone shares the memory of the array. Threads can share an array. An array can't outlive what
+/// it borrows:
 ///
 /// ```compile_fail,E0597
 /// let array = {
@@ -74,14 +74,16 @@ pub struct Array<'a> {
 
 /// Changes and windows.
 impl<'a> Array<'a> {
-    /// Says which rows are present: those whose bit is 1. The others are null, and what is stored
-    /// under them is not seen. Bits of a [`Bitmap`] or a `&Mask` are borrowed, a [`Mask`] is owned.
+    /// Sets which rows are null: the rows whose bit in `present` is 0. No result depends on the
+    /// values that are stored under nulls. The bits of a [`Bitmap`] or a `&Mask` are borrowed, and
+    /// a [`Mask`] is owned.
     ///
     /// # Errors
     ///
-    /// [`Error::WrongLength`], if there is not one bit for each row; [`Error::Unsupported`] for
-    /// [`nulls`](Array::nulls); [`Error::ForeignValidity`] for columns of other crates;
-    /// [`Error::NoMemory`].
+    /// - [`Error::WrongLength`], if there is not one bit for each row.
+    /// - [`Error::Unsupported`], if the array was made by [`nulls`](Array::nulls).
+    /// - [`Error::ForeignValidity`], if the array is a column of another crate.
+    /// - [`Error::NoMemory`], if the bits have to be copied, and the allocation fails.
     ///
     /// # Examples
     ///
@@ -110,14 +112,18 @@ impl<'a> Array<'a> {
         Ok(self.keeping(validity))
     }
 
-    /// Says what numbers of type `i32` or `i64` stand for, by a format of the
-    /// [Arrow C data interface](https://arrow.apache.org/docs/format/CDataInterface.html): dates
-    /// (`tdD`), times of a day, points in time (`tsu:UTC`), spans, decimals of 32 and 64 bits
-    /// (`d:9,2,32`, of up to 9 and 18 digits). [`format`](crate::format) has names for these.
+    /// Sets the format of an array of `i32` or `i64`, so that its numbers are dates (`tdD`), times
+    /// of day, timestamps (`tsu:UTC`), durations, or decimals of 32 and 64 bits (`d:9,2,32`, of up
+    /// to 9 and 18 digits).
+    ///
+    /// Formats are texts of the
+    /// [Arrow C data interface](https://arrow.apache.org/docs/format/CDataInterface.html). The
+    /// module [`format`](crate::format) has constants for them.
     ///
     /// # Errors
     ///
-    /// [`Error::BadFormat`], if the format is not one of these, or one of numbers of another width.
+    /// [`Error::BadFormat`], if the format is none of these, or if it is a format of numbers of
+    /// another width.
     ///
     /// # Examples
     ///
@@ -143,11 +149,11 @@ impl<'a> Array<'a> {
         }
     }
 
-    /// Returns `rows` rows, those from row `first` on. Nothing is copied.
+    /// Returns `rows` rows, from row `first` on, without a copy.
     ///
     /// # Errors
     ///
-    /// [`Error::SliceOutOfBounds`], if there are no such rows.
+    /// [`Error::SliceOutOfBounds`], if the array has fewer than `first + rows` rows.
     ///
     /// # Examples
     ///
@@ -171,16 +177,17 @@ impl<'a> Array<'a> {
         })
     }
 
-    /// Returns the rows as [`Numbers`], whose type is known at compile time.
+    /// Returns the rows as [`Numbers`], whose number type is known at compile time.
     ///
-    /// Nothing is copied, except numbers of a column of another crate that do not lie at a multiple
-    /// of their size.
+    /// Nothing is copied, except the numbers of a column of another crate whose address is not a
+    /// multiple of their size.
     ///
     /// # Errors
     ///
-    /// [`Error::TypeMismatch`], if the rows are numbers of another type; [`Error::Unsupported`], if
-    /// they are not kept as whole numbers of 8 to 64 bits; of a column of another crate also
-    /// [`Error::BadStructs`], [`Error::BadArray`] and [`Error::NoMemory`].
+    /// - [`Error::TypeMismatch`], if the array stores integers of another type.
+    /// - [`Error::Unsupported`], if the array does not store integers of 8 to 64 bits.
+    /// - [`Error::BadStructs`], [`Error::BadArray`] or [`Error::NoMemory`], if the array is a
+    ///   column of another crate, and its structs are wrong, or an allocation fails.
     ///
     /// # Examples
     ///
@@ -214,10 +221,10 @@ impl<'a> Array<'a> {
         self.rows == 0
     }
 
-    /// Returns the format of the type, as the
-    /// [Arrow C data interface](https://arrow.apache.org/docs/format/CDataInterface.html) writes
-    /// it: `l` for `i64`, `+s` for structs. That of a dictionary is the format of its keys. It is
-    /// empty, if a column of another crate has none or one that is not UTF-8.
+    /// Returns the format of the type in the
+    /// [Arrow C data interface](https://arrow.apache.org/docs/format/CDataInterface.html): `l` for
+    /// `i64`, `+s` for structs. The format of a dictionary is the format of its keys. The format is
+    /// empty if a column of another crate has no format, or a format that is not UTF-8.
     pub fn format(&self) -> &str {
         match &self.content {
             Content::Lent(lent) => text_of(&lent.format),

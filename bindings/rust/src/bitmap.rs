@@ -1,4 +1,4 @@
-//! Bits of a caller, one a row.
+//! Borrowed bits, one for each row.
 #![forbid(unsafe_code)]
 
 use crate::mask::{zeros, Mask};
@@ -6,8 +6,10 @@ use crate::Error;
 use std::iter::FusedIterator;
 use std::ops::Range;
 
-/// Bits of a borrowed slice, one a row, as in a validity of Arrow: from the lowest bit of the first
-/// byte on.
+/// Borrowed bits, one for each row, in the layout of Arrow's validity bitmaps: the lowest bit of a
+/// byte comes first.
+///
+/// # Examples
 ///
 /// ```
 /// use dunkelva::{Bitmap, Error};
@@ -26,11 +28,11 @@ pub struct Bitmap<'a> {
 }
 
 impl<'a> Bitmap<'a> {
-    /// Takes the bits of `rows` rows, from bit `first` of the slice on.
+    /// Borrows `rows` bits of a slice, from bit `first` on.
     ///
     /// # Errors
     ///
-    /// [`Error::WrongLength`], if the slice has fewer bits.
+    /// [`Error::WrongLength`], if the slice has fewer than `first + rows` bits.
     pub fn new(bytes: &'a [u8], first: usize, rows: usize) -> Result<Self, Error> {
         let has = bytes.len().saturating_mul(8);
         let needs = first.saturating_add(rows);
@@ -58,7 +60,7 @@ impl<'a> Bitmap<'a> {
         self.rows == 0
     }
 
-    /// Returns the bit of a row, or `None` if there is no such row.
+    /// Returns the bit of a row, or `None` if `row` is not less than the number of rows.
     pub fn get(&self, row: usize) -> Option<bool> {
         (row < self.rows).then(|| {
             let place = self.first + row;
@@ -66,7 +68,7 @@ impl<'a> Bitmap<'a> {
         })
     }
 
-    /// Returns the bits, row by row.
+    /// Returns an iterator over the bits, row by row.
     pub fn iter(self) -> Bits<'a> {
         Bits {
             rows: 0..self.rows,
@@ -74,7 +76,7 @@ impl<'a> Bitmap<'a> {
         }
     }
 
-    /// Returns how many rows have the bit 1.
+    /// Returns the number of bits that are 1.
     pub fn count_set(self) -> usize {
         let whole = (0..self.rows / 8).map(|at| self.byte(8 * at).count_ones() as usize);
         let others = (self.rows / 8 * 8..self.rows).filter(|&row| self.get(row) == Some(true));
@@ -123,7 +125,7 @@ impl<'a> IntoIterator for Bitmap<'a> {
     }
 }
 
-/// The bits of a [`Bitmap`] or a [`Mask`], row by row.
+/// An iterator over the bits of a [`Bitmap`] or a [`Mask`], row by row.
 #[derive(Clone, Debug)]
 pub struct Bits<'a> {
     rows: Range<usize>,

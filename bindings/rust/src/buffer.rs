@@ -1,15 +1,15 @@
-//! Elements and bits that an array borrows or owns.
+//! Borrowed or owned elements and bits of arrays.
 #![forbid(unsafe_code)]
 
 use crate::lent::{shared, Shared};
 use crate::{Bitmap, Error, Mask};
 use std::ops::Deref;
 
-/// Elements of a slice that is borrowed, or of a vector that is owned: the numbers, offsets, keys
-/// or bytes of an [`Array`](crate::Array).
+/// The numbers, offsets, keys or bytes of an [`Array`](crate::Array), in a borrowed slice or an
+/// owned vector.
 ///
-/// Functions that take elements take what converts into it: `&[T]`, `&[T; N]`, `&Vec<T>`, which are
-/// borrowed, or `Vec<T>`, which is owned. Nothing is copied.
+/// `&[T]`, `&[T; N]`, `&Vec<T>` and `Vec<T>` convert into a buffer, without a copy. The first three
+/// are borrowed, and `Vec<T>` is owned.
 ///
 /// # Examples
 ///
@@ -25,9 +25,9 @@ use std::ops::Deref;
 /// ```
 #[derive(Clone, Debug)]
 pub enum Buffer<'a, T> {
-    /// Elements that are borrowed.
+    /// Borrowed elements.
     Borrowed(&'a [T]),
-    /// Elements that are owned.
+    /// Owned elements.
     Owned(Vec<T>),
 }
 
@@ -43,37 +43,38 @@ impl<T> Deref for Buffer<'_, T> {
 }
 
 impl<'a, T> From<&'a [T]> for Buffer<'a, T> {
-    /// Borrows elements.
+    /// Borrows the elements.
     fn from(elements: &'a [T]) -> Self {
         Buffer::Borrowed(elements)
     }
 }
 
 impl<'a, T, const N: usize> From<&'a [T; N]> for Buffer<'a, T> {
-    /// Borrows elements.
+    /// Borrows the elements.
     fn from(elements: &'a [T; N]) -> Self {
         Buffer::Borrowed(elements)
     }
 }
 
 impl<'a, T> From<&'a Vec<T>> for Buffer<'a, T> {
-    /// Borrows elements.
+    /// Borrows the elements.
     fn from(elements: &'a Vec<T>) -> Self {
         Buffer::Borrowed(elements)
     }
 }
 
 impl<T> From<Vec<T>> for Buffer<'_, T> {
-    /// Keeps elements.
+    /// Owns the elements.
     fn from(elements: Vec<T>) -> Self {
         Buffer::Owned(elements)
     }
 }
 
-/// Bits that are borrowed or owned, one a row: truth values or a validity.
+/// The truth values or the validity of an [`Array`](crate::Array): borrowed or owned bits, one for
+/// each row.
 ///
-/// Functions that take bits take what converts into it: a [`Bitmap`] or a `&Mask`, whose bits are
-/// borrowed, or a [`Mask`], which is owned.
+/// A [`Bitmap`], a `&Mask` and a [`Mask`] convert into a bit buffer. The bits of the first two are
+/// borrowed, and a [`Mask`] is owned.
 ///
 /// # Examples
 ///
@@ -89,14 +90,14 @@ impl<T> From<Vec<T>> for Buffer<'_, T> {
 /// ```
 #[derive(Clone, Debug)]
 pub enum BitBuffer<'a> {
-    /// Bits that are borrowed.
+    /// Borrowed bits.
     Borrowed(Bitmap<'a>),
-    /// Bits that are owned.
+    /// Owned bits.
     Owned(Mask),
 }
 
 impl<'a> BitBuffer<'a> {
-    /// Returns the bits.
+    /// Borrows the bits as a [`Bitmap`].
     pub fn bitmap(&self) -> Bitmap<'_> {
         match self {
             BitBuffer::Borrowed(bits) => *bits,
@@ -116,21 +117,21 @@ impl<'a> BitBuffer<'a> {
 }
 
 impl<'a> From<Bitmap<'a>> for BitBuffer<'a> {
-    /// Borrows bits.
+    /// Borrows the bits.
     fn from(bits: Bitmap<'a>) -> Self {
         BitBuffer::Borrowed(bits)
     }
 }
 
 impl<'a> From<&'a Mask> for BitBuffer<'a> {
-    /// Borrows bits.
+    /// Borrows the bits.
     fn from(mask: &'a Mask) -> Self {
         BitBuffer::Borrowed(mask.bitmap())
     }
 }
 
 impl From<Mask> for BitBuffer<'_> {
-    /// Keeps bits.
+    /// Owns the bits.
     fn from(mask: Mask) -> Self {
         BitBuffer::Owned(mask)
     }

@@ -1,4 +1,4 @@
-//! Calls on arrays.
+//! Comparisons, sums and extremes of arrays.
 #![forbid(unsafe_code)]
 
 use crate::structs::Structs;
@@ -6,7 +6,7 @@ use crate::sys::{self, Wide};
 use crate::{AnyInteger, Array, Error, Mask};
 use std::os::raw::c_uint;
 
-/// The way in which [`equal_with`] compares rows. The default is that of [`equal`].
+/// Options of [`equal_with`] and [`equal_counted`]. The default is the comparison of [`equal`].
 ///
 /// # Examples
 ///
@@ -23,7 +23,7 @@ pub struct EqualOptions {
 }
 
 impl EqualOptions {
-    /// Returns the options of [`equal`].
+    /// Returns the default options: both options are off.
     pub const fn new() -> Self {
         EqualOptions {
             floats_by_bits: false,
@@ -31,8 +31,8 @@ impl EqualOptions {
         }
     }
 
-    /// Says whether to take floats too, and to compare their bits: a NaN is equal to a NaN of the
-    /// same bits, and -0 is not equal to 0.
+    /// Sets whether floats are compared by their bits. A NaN is then equal to a NaN with the same
+    /// bits, and -0 is not equal to 0. If not set, arrays with floats are refused.
     #[must_use]
     pub const fn floats_by_bits(self, floats_by_bits: bool) -> Self {
         EqualOptions {
@@ -41,8 +41,8 @@ impl EqualOptions {
         }
     }
 
-    /// Says whether to check that texts are UTF-8, which takes several times as long as the
-    /// comparison. Without that texts are compared as bytes.
+    /// Sets whether texts are checked to be UTF-8. The check takes several times as long as the
+    /// comparison. If not set, texts are compared byte by byte.
     #[must_use]
     pub const fn check_texts(self, check_texts: bool) -> Self {
         EqualOptions {
@@ -51,50 +51,64 @@ impl EqualOptions {
         }
     }
 
+    /// Returns an error with a hint, if the options do not take the floats that it is about.
+    fn explain(self, error: Error) -> Error {
+        if self.floats_by_bits {
+            error
+        } else {
+            error.or_floats()
+        }
+    }
+
     fn flags(self) -> u32 {
         u32::from(self.floats_by_bits) | u32::from(self.check_texts) << 1
     }
 }
 
-/// A comparison operator of numbers.
+/// A comparison of two numbers, each of which can be null.
 #[derive(Clone, Copy, Debug, PartialEq, Eq, Hash)]
 pub enum Comparison {
-    /// Both are the same number, or both are null.
+    /// True if both are the same number, or both are null.
     Equal = 0,
-    /// They differ, or exactly one of them is null.
+    /// True if the numbers differ, or exactly one of them is null.
     Unequal = 1,
-    /// The left one is less, and none is null.
+    /// True if the left number is less than the right number. False if one is null.
     Less = 2,
-    /// The left one is less or the same, and none is null.
+    /// True if the left number is less than or equal to the right number. False if one is null.
     LessOrEqual = 3,
-    /// The left one is greater, and none is null.
+    /// True if the left number is greater than the right number. False if one is null.
     Greater = 4,
-    /// The left one is greater or the same, and none is null.
+    /// True if the left number is greater than or equal to the right number. False if one is null.
     GreaterOrEqual = 5,
 }
 
-/// An operation on the bits of numbers, place by place.
+/// An operation that combines numbers bit by bit.
 #[derive(Clone, Copy, Debug, PartialEq, Eq, Hash)]
 pub enum BitOperation {
-    /// A bit is 1 where it is 1 in all numbers.
+    /// A bit is 1 if it is 1 in all numbers.
     And = 0,
-    /// A bit is 1 where it is 1 in at least one number.
+    /// A bit is 1 if it is 1 in at least one number.
     Or = 1,
-    /// A bit is 1 where it is 1 in an odd count of numbers.
+    /// A bit is 1 if it is 1 in an odd number of numbers.
     Xor = 2,
 }
 
-/// Compares two arrays of one type and one length, row by row: `true` where both rows are the same.
+/// Compares two arrays of the same type and length, row by row. Returns `true` for equal rows.
 ///
-/// Two nulls are equal; a null and a value are not. Nested rows are compared as trees: lists item
-/// by item, structs field by field, dictionaries by the entries that their keys name. Types are the
-/// same where their formats are, letter for letter, and the names of the fields of structs.
+/// A null is equal only to a null. Lists are compared item by item, structs field by field, and
+/// dictionaries by the entries that their keys name. Two types are the same if their formats are
+/// the same text, at each level, and if the fields of structs have the same names in the same
+/// order.
 ///
 /// # Errors
 ///
-/// [`Error::LengthMismatch`]; [`Error::TypeMismatch`]; [`Error::Unsupported`] for floats, for which
-/// there is [`equal_with`], and for types of other crates that the library does not take;
-/// [`Error::BadArray`] for a key that names no entry; [`Error::NoMemory`].
+/// - [`Error::LengthMismatch`] or [`Error::TypeMismatch`], if the arrays differ in length or type.
+/// - [`Error::FloatsUnsupported`], if the arrays have floats: use [`equal_with`].
+/// - [`Error::Unsupported`], if a column of another crate has a type that the library does not
+///   take.
+/// - [`Error::BadArray`], if a key names no entry, or a view does not match its bytes.
+/// - [`Error::BadStructs`], if the structs of a column of another crate are wrong.
+/// - [`Error::NoMemory`], if an allocation fails.
 ///
 /// # Examples
 ///
@@ -111,21 +125,25 @@ pub fn equal(left: &Array<'_>, right: &Array<'_>) -> Result<Mask, Error> {
     equal_with(left, right, EqualOptions::default())
 }
 
-/// Compares as [`equal`] does: `true` where rows differ.
+/// Compares two arrays of the same type and length, row by row. Returns `true` for rows that
+/// differ.
+///
+/// The result is `!equal(left, right)`.
 ///
 /// # Errors
 ///
-/// Those of [`equal`].
+/// The errors of [`equal`].
 pub fn not_equal(left: &Array<'_>, right: &Array<'_>) -> Result<Mask, Error> {
     Ok(!equal(left, right)?)
 }
 
-/// Compares as [`equal`] does, with options.
+/// Compares two arrays of the same type and length, row by row, with options. Returns `true` for
+/// equal rows.
 ///
 /// # Errors
 ///
-/// Those of [`equal`]; with [`EqualOptions::check_texts`] also [`Error::BadArray`], if a text is
-/// not UTF-8.
+/// The errors of [`equal`]. With [`EqualOptions::check_texts`] also [`Error::BadArray`], if a text
+/// is not UTF-8.
 ///
 /// # Examples
 ///
@@ -143,16 +161,18 @@ pub fn equal_with(
     right: &Array<'_>,
     options: EqualOptions,
 ) -> Result<Mask, Error> {
-    of_two(left, right, |one, other, out| {
+    let same = of_two(left, right, |one, other, out| {
         sys::equal(one, other, options.flags(), out)
-    })
+    });
+    same.map_err(|error| options.explain(error))
 }
 
-/// Compares as [`equal_with`] does, and counts the leaf values that were compared.
+/// Compares two arrays as [`equal_with`] does, and counts the leaf values that were compared. A
+/// leaf value is a stored number, truth value, text or byte string.
 ///
 /// # Errors
 ///
-/// Those of [`equal_with`].
+/// The errors of [`equal_with`].
 ///
 /// # Examples
 ///
@@ -173,16 +193,22 @@ pub fn equal_counted(
     let mut count = 0;
     let same = of_two(left, right, |one, other, out| {
         sys::equal_rows(one, other, options.flags(), out, &mut count)
-    })?;
+    });
+    let same = same.map_err(|error| options.explain(error))?;
     Ok((same, count))
 }
 
-/// Finds the rows that are null.
+/// Finds the null rows of an array of any type. Returns `true` for null rows.
+///
+/// A row of a dictionary is null if its key is null, or if the key names an entry that is null.
 ///
 /// # Errors
 ///
-/// [`Error::Unsupported`] for types of other crates that the library does not take;
-/// [`Error::BadArray`] for a key that names no entry; [`Error::NoMemory`].
+/// - [`Error::Unsupported`], if a column of another crate has a type that the library does not
+///   take.
+/// - [`Error::BadArray`], if a key names no entry.
+/// - [`Error::BadStructs`], if the structs of a column of another crate are wrong.
+/// - [`Error::NoMemory`], if an allocation fails.
 ///
 /// # Examples
 ///
@@ -200,15 +226,16 @@ pub fn is_null(array: &Array<'_>) -> Result<Mask, Error> {
     })
 }
 
-/// Compares two arrays of numbers of one type and one length, row by row.
+/// Compares two arrays of numbers of the same type and length, row by row.
 ///
-/// Takes whole numbers of 8 to 64 bits, and what is kept as such: dates, times, points in time,
-/// spans, decimals of 32 and 64 bits.
+/// Takes arrays of integers of 8 to 64 bits, dates, times, timestamps, durations, and decimals of
+/// 32 and 64 bits.
 ///
 /// # Errors
 ///
-/// [`Error::LengthMismatch`]; [`Error::TypeMismatch`]; [`Error::Unsupported`] for other types than
-/// numbers; [`Error::NoMemory`].
+/// - [`Error::LengthMismatch`] or [`Error::TypeMismatch`], if the arrays differ in length or type.
+/// - [`Error::Unsupported`], if an array has another type.
+/// - [`Error::NoMemory`], if an allocation fails.
 ///
 /// # Examples
 ///
@@ -226,15 +253,16 @@ pub fn compare(left: &Array<'_>, comparison: Comparison, right: &Array<'_>) -> R
     })
 }
 
-/// Compares each row with one number, on the right.
+/// Compares each row of an array of numbers with one number, which is on the right side.
 ///
-/// Takes whole numbers of 8 to 64 bits, and what is kept as such: dates, times, points in time,
-/// spans, decimals of 32 and 64 bits.
+/// Takes arrays of integers of 8 to 64 bits, dates, times, timestamps, durations, and decimals of
+/// 32 and 64 bits.
 ///
 /// # Errors
 ///
-/// [`Error::NotRepresentable`], if the array's type has no such number; [`Error::Unsupported`] for
-/// other types than numbers; [`Error::NoMemory`].
+/// - [`Error::NotRepresentable`], if the type of the array can't represent the number.
+/// - [`Error::Unsupported`], if the array has another type.
+/// - [`Error::NoMemory`], if an allocation fails.
 ///
 /// # Examples
 ///
@@ -261,15 +289,18 @@ pub fn compare_number(
     })
 }
 
-/// Returns the sum of the rows that are not null, wrapped to the array's own number type although
-/// it is returned as `i128`: of the `i8` rows 100 and 100 it is -56. `None` if no row is present.
+/// Returns the sum of all rows that are not null, or `None` if there is no such row.
 ///
-/// Takes whole numbers of 8 to 64 bits, and what is kept as such: dates, times, points in time,
-/// spans, decimals of 32 and 64 bits.
+/// The sum wraps around in the number type of the array, although it is returned as an `i128`: the
+/// sum of the `i8` rows 100 and 100 is -56.
+///
+/// Takes arrays of integers of 8 to 64 bits, dates, times, timestamps, durations, and decimals of
+/// 32 and 64 bits.
 ///
 /// # Errors
 ///
-/// [`Error::Unsupported`] for other types than numbers; [`Error::NoMemory`].
+/// [`Error::Unsupported`], if the array has another type; [`Error::NoMemory`], if an allocation
+/// fails.
 ///
 /// # Examples
 ///
@@ -287,14 +318,16 @@ pub fn wrapping_sum(array: &Array<'_>) -> Result<Option<i128>, Error> {
     Ok(sum.number())
 }
 
-/// Finds the least and the greatest row that is not null, if there is one.
+/// Returns the least and the greatest of all rows that are not null, or `None` if there is no such
+/// row.
 ///
-/// Takes whole numbers of 8 to 64 bits, and what is kept as such: dates, times, points in time,
-/// spans, decimals of 32 and 64 bits.
+/// Takes arrays of integers of 8 to 64 bits, dates, times, timestamps, durations, and decimals of
+/// 32 and 64 bits.
 ///
 /// # Errors
 ///
-/// [`Error::Unsupported`] for other types than numbers; [`Error::NoMemory`].
+/// [`Error::Unsupported`], if the array has another type; [`Error::NoMemory`], if an allocation
+/// fails.
 ///
 /// # Examples
 ///
@@ -312,38 +345,41 @@ pub fn min_max(array: &Array<'_>) -> Result<Option<(i128, i128)>, Error> {
     Ok(least.number().zip(greatest.number()))
 }
 
-/// Finds the least row that is not null, if there is one.
+/// Returns the least of all rows that are not null, or `None` if there is no such row.
 ///
-/// Takes whole numbers of 8 to 64 bits, and what is kept as such: dates, times, points in time,
-/// spans, decimals of 32 and 64 bits.
+/// Takes arrays of integers of 8 to 64 bits, dates, times, timestamps, durations, and decimals of
+/// 32 and 64 bits.
 ///
 /// # Errors
 ///
-/// [`Error::Unsupported`] for other types than numbers; [`Error::NoMemory`].
+/// [`Error::Unsupported`], if the array has another type; [`Error::NoMemory`], if an allocation
+/// fails.
 pub fn min(array: &Array<'_>) -> Result<Option<i128>, Error> {
     Ok(min_max(array)?.map(|(least, _)| least))
 }
 
-/// Finds the greatest row that is not null, if there is one.
+/// Returns the greatest of all rows that are not null, or `None` if there is no such row.
 ///
-/// Takes whole numbers of 8 to 64 bits, and what is kept as such: dates, times, points in time,
-/// spans, decimals of 32 and 64 bits.
+/// Takes arrays of integers of 8 to 64 bits, dates, times, timestamps, durations, and decimals of
+/// 32 and 64 bits.
 ///
 /// # Errors
 ///
-/// [`Error::Unsupported`] for other types than numbers; [`Error::NoMemory`].
+/// [`Error::Unsupported`], if the array has another type; [`Error::NoMemory`], if an allocation
+/// fails.
 pub fn max(array: &Array<'_>) -> Result<Option<i128>, Error> {
     Ok(min_max(array)?.map(|(_, greatest)| greatest))
 }
 
-/// Joins the bits of all rows that are not null, if there is one.
+/// Combines all rows that are not null bit by bit. Returns `None` if there is no such row.
 ///
-/// Takes whole numbers of 8 to 64 bits, and what is kept as such: dates, times, points in time,
-/// spans, decimals of 32 and 64 bits.
+/// Takes arrays of integers of 8 to 64 bits, dates, times, timestamps, durations, and decimals of
+/// 32 and 64 bits.
 ///
 /// # Errors
 ///
-/// [`Error::Unsupported`] for other types than numbers; [`Error::NoMemory`].
+/// [`Error::Unsupported`], if the array has another type; [`Error::NoMemory`], if an allocation
+/// fails.
 ///
 /// # Examples
 ///
@@ -363,7 +399,7 @@ pub fn reduce_bits(array: &Array<'_>, operation: BitOperation) -> Result<Option<
     Ok(result.number())
 }
 
-/// Makes a mask of two arrays of one length by a call that returns a status.
+/// Makes a mask of two arrays of the same length with a call that returns a status.
 fn of_two(
     left: &Array<'_>,
     right: &Array<'_>,
@@ -374,7 +410,7 @@ fn of_two(
     Mask::written(left.len(), |out| match call(&one, &other, out) {
         2 => Err(Error::types_differ(left, right)),
         5 => {
-            // It is the right one's type, if the left one is supported beside itself.
+            // The right type is not supported, if the left array can be compared with itself.
             let is_left = call(&one, &one, out) == 5;
             Err(Error::unsupported(if is_left { left } else { right }))
         }
@@ -388,7 +424,7 @@ pub fn library_version() -> &'static str {
 }
 
 impl Wide {
-    /// Returns a number in two halves.
+    /// Splits a number into two halves of 64 bits.
     pub(crate) fn of(number: i128) -> Wide {
         let [low, high] = [number, number >> 64].map(|it| (it & i128::from(u64::MAX)) as u64);
         Wide {

@@ -1,4 +1,4 @@
-//! Arrays of vectors, slices and iterators.
+//! Conversions of vectors, slices and iterators into arrays.
 #![forbid(unsafe_code)]
 
 use crate::lent::shared;
@@ -6,56 +6,56 @@ use crate::types::{Number, Offset};
 use crate::{Array, Error, Mask};
 
 impl<'a, T: Number> From<&'a [T]> for Array<'a> {
-    /// Borrows numbers.
+    /// Borrows the numbers.
     fn from(values: &'a [T]) -> Self {
         Array::numbers(values)
     }
 }
 
 impl<'a, T: Number, const N: usize> From<&'a [T; N]> for Array<'a> {
-    /// Borrows numbers.
+    /// Borrows the numbers.
     fn from(values: &'a [T; N]) -> Self {
         Array::numbers(values)
     }
 }
 
 impl<'a, T: Number> From<&'a Vec<T>> for Array<'a> {
-    /// Borrows numbers.
+    /// Borrows the numbers.
     fn from(values: &'a Vec<T>) -> Self {
         Array::numbers(values)
     }
 }
 
 impl<T: Number> From<Vec<T>> for Array<'_> {
-    /// Keeps numbers.
+    /// Owns the numbers.
     fn from(values: Vec<T>) -> Self {
         Array::numbers(values)
     }
 }
 
 impl<'a> From<&'a Mask> for Array<'a> {
-    /// Borrows truth values.
+    /// Borrows the truth values.
     fn from(values: &'a Mask) -> Self {
         Array::booleans(values)
     }
 }
 
 impl From<Mask> for Array<'_> {
-    /// Keeps truth values.
+    /// Owns the truth values.
     fn from(values: Mask) -> Self {
         Array::booleans(values)
     }
 }
 
 impl<T: Number> FromIterator<T> for Array<'_> {
-    /// Copies numbers.
+    /// Copies the numbers.
     fn from_iter<I: IntoIterator<Item = T>>(rows: I) -> Self {
         Array::from(Vec::from_iter(rows))
     }
 }
 
 impl<T: Number> FromIterator<Option<T>> for Array<'_> {
-    /// Copies numbers, with nulls for `None`.
+    /// Copies the numbers. `None` becomes a null.
     fn from_iter<I: IntoIterator<Item = Option<T>>>(rows: I) -> Self {
         let (values, present): (Vec<T>, Mask) = split(rows);
         Array::from(values).with_present(present)
@@ -63,14 +63,14 @@ impl<T: Number> FromIterator<Option<T>> for Array<'_> {
 }
 
 impl FromIterator<bool> for Array<'_> {
-    /// Copies truth values.
+    /// Copies the truth values.
     fn from_iter<I: IntoIterator<Item = bool>>(rows: I) -> Self {
         Array::from(Mask::from_iter(rows))
     }
 }
 
 impl FromIterator<Option<bool>> for Array<'_> {
-    /// Copies truth values, with nulls for `None`.
+    /// Copies the truth values. `None` becomes a null.
     fn from_iter<I: IntoIterator<Item = Option<bool>>>(rows: I) -> Self {
         let (values, present): (Mask, Mask) = split(rows);
         Array::from(values).with_present(present)
@@ -92,8 +92,8 @@ macro_rules! strings {
             }
 
             impl$(<$borrowed>)? FromIterator<Option<$row>> for Array<'_> {
-                #[doc = concat!("Copies ", $what, ", as [`Array::", stringify!($call), "`] does,")]
-                /// which returns an error where this panics.
+                #[doc = concat!("Copies ", $what, ", as [`Array::", stringify!($call), "`] does.")]
+                /// `None` becomes a null.
                 ///
                 /// # Panics
                 ///
@@ -115,10 +115,10 @@ strings! {
     Vec<u8>: "byte strings", from_binary;
 }
 
-/// Makes arrays of texts and byte strings, which are copied.
+/// Constructors of arrays that copy texts and byte strings.
 impl Array<'_> {
-    /// Copies texts: `&str`, `String` and their like. `collect` does so too, and panics where this
-    /// returns an error.
+    /// Makes an array of copies of texts, such as `&str` or `String`. `None` becomes a null.
+    /// `collect` does the same, but panics instead of returning an error.
     ///
     /// # Errors
     ///
@@ -145,8 +145,8 @@ impl Array<'_> {
         Ok(strings.into_array(i32::TEXTS))
     }
 
-    /// Copies byte strings: `&[u8]`, `Vec<u8>` and their like. `collect` does so too, and panics
-    /// where this returns an error.
+    /// Makes an array of copies of byte strings, such as `&[u8]` or `Vec<u8>`. `None` becomes a
+    /// null. `collect` does the same, but panics instead of returning an error.
     ///
     /// # Errors
     ///

@@ -9,14 +9,15 @@ use std::os::raw::c_uint;
 macro_rules! counts {
     ($($name:ident: $bits:literal, $what:literal, $result:literal;)*) => {
         $(
-            #[doc = concat!("Counts the ", $what, " of each row. Returns null for null rows.")]
+            #[doc = concat!("Counts the ", $what, " in each row. The count of a null row is null.")]
             ///
-            /// Takes whole numbers of 8 to 64 bits, and what is kept as such: dates, times, points
-            /// in time, spans, decimals of 32 and 64 bits.
+            /// Takes arrays of integers of 8 to 64 bits, dates, times, timestamps, durations, and
+            /// decimals of 32 and 64 bits.
             ///
             /// # Errors
             ///
-            /// [`Error::Unsupported`] for other types than numbers; [`Error::NoMemory`].
+            /// [`Error::Unsupported`], if the array has another type; [`Error::NoMemory`], if an
+            /// allocation fails.
             ///
             /// # Examples
             ///
@@ -38,10 +39,10 @@ macro_rules! counts {
 counts! {
     count_ones: 0, "bits that are 1", "4";
     count_zeros: 1, "bits that are 0", "4";
-    leading_ones: 2, "highest bits that are 1", "3";
-    leading_zeros: 3, "highest bits that are 0", "0";
-    trailing_ones: 4, "lowest bits that are 1", "1";
-    trailing_zeros: 5, "lowest bits that are 0", "0";
+    leading_ones: 2, "ones above the highest zero", "3";
+    leading_zeros: 3, "zeros above the highest one", "0";
+    trailing_ones: 4, "ones below the lowest zero", "1";
+    trailing_zeros: 5, "zeros below the lowest one", "0";
 }
 
 fn count_bits(bits: c_uint, array: &Array<'_>) -> Result<Numbers<'static, u32>, Error> {

@@ -1,4 +1,4 @@
-//! Errors of calls.
+//! The errors of this crate.
 #![forbid(unsafe_code)]
 
 use crate::names::Shown;
@@ -6,13 +6,13 @@ use crate::Array;
 use std::fmt;
 use std::ops::RangeInclusive;
 
-/// The reason why there is no array or no result.
+/// An error of this crate: the reason why an array can't be made, or why a call has no result.
 ///
-/// Types are formats of the
-/// [Arrow C data interface](https://arrow.apache.org/docs/format/CDataInterface.html), with the
-/// types inside: `l`, `+l<u>`, `+s<id: l, name: u>`; of a dictionary the keys and the entries,
-/// `C<u>`. A field's name stands in quotes where it has other characters than letters, digits and
-/// `_`. Messages have the names of Arrow too: `l (Int64)`, `+l<u> (List(Utf8))`.
+/// A type is written as its format in the [Arrow C data
+/// interface](https://arrow.apache.org/docs/format/CDataInterface.html), followed by the types in
+/// it: `l`, `+l<u>`, `+s<id: l, name: u>`. A dictionary is written as its keys and its entries:
+/// `C<u>`. The name of a field is in quotes if it has characters other than letters, digits and
+/// `_`. Messages also have Arrow's name of the type: `l (Int64)`, `+l<u> (List(Utf8))`.
 #[derive(Clone, Debug, PartialEq, Eq, Hash)]
 #[non_exhaustive]
 pub enum Error {
@@ -23,11 +23,11 @@ pub enum Error {
         /// The number of rows on the right.
         right: usize,
     },
-    /// Two arrays differ in type, or an array is not of the type that was asked for.
+    /// Two arrays differ in type, or an array does not have the requested type.
     TypeMismatch {
         /// The type on the left.
         left: String,
-        /// The type on the right, or the one that was asked for.
+        /// The type on the right, or the requested type.
         right: String,
     },
     /// Two [`Unique`](crate::Unique)s have different ranges.
@@ -37,35 +37,35 @@ pub enum Error {
         /// The range on the right.
         right: RangeInclusive<i128>,
     },
-    /// The type of an array has no such number.
+    /// The type of an array can't represent a number.
     NotRepresentable {
         /// The number.
         number: i128,
         /// The type.
         format: String,
     },
-    /// A row lies outside of the range of a [`Unique`](crate::Unique).
+    /// A row is outside of the range of a [`Unique`](crate::Unique).
     OutOfUniqueRange {
         /// The range.
         range: RangeInclusive<i128>,
     },
-    /// A range is empty, or has 2^64 - 1 numbers or more, its ends included.
+    /// A range is empty, or has 2^64 - 1 or more numbers, both ends included.
     BadRange {
         /// The lower end.
         least: i128,
         /// The upper end.
         greatest: i128,
     },
-    /// A slice, a validity, or an array inside another has the wrong length.
+    /// A slice, a validity, or an array in another array has the wrong length.
     WrongLength {
         /// The name of the part that has the wrong length.
         what: String,
         /// Its length.
         has: usize,
-        /// The length that it should have, or the least one.
+        /// The length that is needed. A longer slice is also accepted.
         needs: usize,
     },
-    /// Offsets end after the bytes or items that they are of.
+    /// The last offset is greater than the number of bytes or items.
     OffsetsPastEnd {
         /// The last offset.
         end: usize,
@@ -74,60 +74,67 @@ pub enum Error {
         /// The number of bytes or items.
         has: usize,
     },
-    /// An array has no rows for a slice.
+    /// The rows of a slice are outside of the array.
     SliceOutOfBounds {
-        /// The first row that was asked for.
+        /// The first requested row.
         first: usize,
-        /// The number of rows that was asked for.
+        /// The number of requested rows.
         rows: usize,
-        /// The number of rows of the array.
+        /// The number of rows in the array.
         len: usize,
     },
-    /// An offset is less than the one before it, or less than 0.
+    /// An offset is negative, or less than the offset before it.
     BadOffsets,
-    /// Texts or byte strings have more than `i32::MAX` bytes. [`Array::texts`] and
-    /// [`Array::binary`] take more, with offsets of `i64`.
+    /// Texts or byte strings have more than `i32::MAX` bytes. For more bytes use [`Array::texts`]
+    /// or [`Array::binary`] with offsets of `i64`.
     TooLong,
-    /// A format does not fit the numbers of an array.
+    /// A format does not fit the number type of an array.
     BadFormat {
         /// The format.
         format: String,
         /// The type of the array.
         array: String,
     },
-    /// Decimals of 128 bits have a precision of 1 to 38.
+    /// The precision of decimals of 128 bits is not from 1 to 38.
     BadPrecision {
-        /// The precision that was asked for.
+        /// The requested precision.
         precision: u8,
     },
-    /// The name of a field has a byte 0.
+    /// The name of a field contains a zero byte.
     BadName {
         /// The name.
         name: String,
     },
-    /// More than 64 levels of types in types.
+    /// Types are nested more than 64 levels deep.
     TooDeep,
-    /// More than 2^20 types in types.
+    /// An array has more than 2^20 types in it.
     TooManyTypes,
-    /// The call does not support this type.
+    /// The call does not take arrays of this type.
     Unsupported {
         /// The type.
         format: String,
     },
-    /// A column of another crate has a validity of its own, and takes no other.
+    /// An array has floats. They are compared only by [`equal_with`](crate::equal_with) and
+    /// [`equal_counted`](crate::equal_counted) with
+    /// [`floats_by_bits`](crate::EqualOptions::floats_by_bits).
+    FloatsUnsupported {
+        /// The type of the array.
+        format: String,
+    },
+    /// A column of another crate has its own validity, which can't be replaced.
     ForeignValidity,
-    /// A key names no entry, a view leads to no bytes or to others than it begins with, or a text
-    /// is not UTF-8. In a column of another crate also offsets that go back, or the name of a field
-    /// that is not UTF-8. The library does not say which.
+    /// A key names no entry, a view does not match its bytes, or a text is not UTF-8. In a column
+    /// of another crate also: an offset is less than the offset before it, or the name of a field
+    /// is not UTF-8. The library does not say which of these faults it found.
     BadArray,
-    /// The structs of a column of another crate break the Arrow C data interface, or have too many
-    /// types in types.
+    /// The structs of a column of another crate break the rules of the Arrow C data interface, or
+    /// have too many types or levels.
     BadStructs,
     /// The library refused an argument.
     BadArgument,
     /// An allocation failed.
     NoMemory,
-    /// A status that no call of this crate expects.
+    /// The library returned a status that this crate does not know.
     Unknown(i32),
 }
 
@@ -142,6 +149,16 @@ impl Error {
     pub(crate) fn types_differ(left: &Array<'_>, right: &Array<'_>) -> Error {
         let (left, right) = (left.type_text(), right.type_text());
         Error::TypeMismatch { left, right }
+    }
+
+    /// Names what to call instead, if a type with floats was refused.
+    pub(crate) fn or_floats(self) -> Error {
+        match self {
+            Error::Unsupported { format } if Shown(&format).has_floats() => {
+                Error::FloatsUnsupported { format }
+            }
+            other => other,
+        }
     }
 
     /// Returns nothing for the status 0, and an error for each other.
@@ -233,11 +250,15 @@ impl Error {
                 )
             }
             Error::Unsupported { format } => {
-                write!(f, "the call does not support the type {}", Shown(format))?;
-                if Shown(format).has_floats() {
-                    f.write_str(": floats are compared by equal_with with floats_by_bits")?;
-                }
-                Ok(())
+                write!(f, "the call does not support the type {}", Shown(format))
+            }
+            Error::FloatsUnsupported { format } => {
+                write!(
+                    f,
+                    "the call does not support the type {}: floats are compared by equal_with with \
+                     floats_by_bits",
+                    Shown(format)
+                )
             }
             others => f.write_str(others.fixed_message()),
         }

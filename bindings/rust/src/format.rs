@@ -1,10 +1,12 @@
-//! Formats of numbers that stand for dates, times, spans and points in time.
-//!
+//! Formats of dates, times, timestamps, durations and intervals, for
 //! [`Array::with_format`](crate::Array::with_format) and
-//! [`Numbers::with_format`](crate::Numbers::with_format) take them. They are the texts of the
-//! [Arrow C data interface](https://arrow.apache.org/docs/format/CDataInterface.html), and are
-//! named as the types of Arrow are. A time zone follows those of points in time; decimals of 32 and
-//! 64 bits are written as `d:9,2,32` and `d:18,2,64`.
+//! [`Numbers::with_format`](crate::Numbers::with_format).
+//!
+//! A format is a text of the [Arrow C data
+//! interface](https://arrow.apache.org/docs/format/CDataInterface.html). The constants have the
+//! names of Arrow's types. To set the time zone of timestamps, append it to the format. Decimals of
+//! 32 and 64 bits have formats such as `d:9,2,32` and `d:18,2,64`, with the precision, the scale
+//! and the bits.
 //!
 //! # Examples
 //!
@@ -33,21 +35,21 @@ macro_rules! formats {
 
 formats! {
     DATE32 = "tdD", i32: "Days since 1970-01-01";
-    DATE64 = "tdm", i64: "Milliseconds since 1970-01-01, of whole days";
+    DATE64 = "tdm", i64: "Milliseconds since 1970-01-01, for whole days";
     TIME32_SECOND = "tts", i32: "Seconds since midnight";
     TIME32_MILLISECOND = "ttm", i32: "Milliseconds since midnight";
     TIME64_MICROSECOND = "ttu", i64: "Microseconds since midnight";
     TIME64_NANOSECOND = "ttn", i64: "Nanoseconds since midnight";
-    DURATION_SECOND = "tDs", i64: "Spans in seconds";
-    DURATION_MILLISECOND = "tDm", i64: "Spans in milliseconds";
-    DURATION_MICROSECOND = "tDu", i64: "Spans in microseconds";
-    DURATION_NANOSECOND = "tDn", i64: "Spans in nanoseconds";
-    INTERVAL_YEAR_MONTH = "tiM", i32: "Spans in months";
-    INTERVAL_DAY_TIME = "tiD", i64: "Spans in days and milliseconds, of 32 bits each";
-    TIMESTAMP_SECOND = "tss:", i64: "Points in time in seconds, without a time zone";
-    TIMESTAMP_MILLISECOND = "tsm:", i64: "Points in time in milliseconds, without a time zone";
-    TIMESTAMP_MICROSECOND = "tsu:", i64: "Points in time in microseconds, without a time zone";
-    TIMESTAMP_NANOSECOND = "tsn:", i64: "Points in time in nanoseconds, without a time zone";
+    DURATION_SECOND = "tDs", i64: "Durations in seconds";
+    DURATION_MILLISECOND = "tDm", i64: "Durations in milliseconds";
+    DURATION_MICROSECOND = "tDu", i64: "Durations in microseconds";
+    DURATION_NANOSECOND = "tDn", i64: "Durations in nanoseconds";
+    INTERVAL_YEAR_MONTH = "tiM", i32: "Intervals in months";
+    INTERVAL_DAY_TIME = "tiD", i64: "Intervals in days and milliseconds, of 32 bits each";
+    TIMESTAMP_SECOND = "tss:", i64: "Timestamps in seconds, without a time zone";
+    TIMESTAMP_MILLISECOND = "tsm:", i64: "Timestamps in milliseconds, without a time zone";
+    TIMESTAMP_MICROSECOND = "tsu:", i64: "Timestamps in microseconds, without a time zone";
+    TIMESTAMP_NANOSECOND = "tsn:", i64: "Timestamps in nanoseconds, without a time zone";
 }
 
 #[cfg(test)]

@@ -43,7 +43,7 @@ pub use crate::numbers::{IntoRows, Numbers, Rows};
 pub use crate::types::{AnyInteger, Integer, Number, Offset};
 pub use crate::unique::Unique;
 
-/// The structs of the Arrow C data interface, which [`Array::from_raw`] takes.
+/// The two structs of the Arrow C data interface, for [`Array::from_raw`].
 #[cfg(feature = "ffi")]
 pub mod ffi {
     pub use crate::structs::{ArrowArray, ArrowSchema};

@@ -1,4 +1,4 @@
-//! How arrays are made of elements and of other arrays.
+//! Constructors of arrays from slices, vectors and other arrays.
 #![forbid(unsafe_code)]
 
 use crate::lent::{shared, Content, Field, Lent, Shared};
@@ -8,14 +8,14 @@ use std::borrow::Cow;
 use std::ffi::CString;
 use std::sync::Arc;
 
-/// Levels of types in types, and types in all, that the library takes.
+/// The most levels of nested types, and the most types in all, that the library takes.
 pub(crate) const MOST_LEVELS: usize = 64;
 const MOST_TYPES: usize = 1 << 20;
 
-/// Makes arrays of one level.
+/// Constructors of arrays that are not nested.
 impl<'a> Array<'a> {
-    /// Borrows numbers of a slice, or keeps those of a vector. For arithmetic there is
-    /// [`Numbers`](crate::Numbers).
+    /// Makes an array of numbers. A slice is borrowed, and a vector is owned. Arithmetic needs
+    /// [`Numbers`](crate::Numbers) instead.
     ///
     /// # Examples
     ///
@@ -31,8 +31,9 @@ impl<'a> Array<'a> {
         Array::flat(values.len(), T::FORMAT, vec![shared(values)])
     }
 
-    /// Borrows or keeps decimals of 128 bits: row `i` is `values[i] * 10^-scale`, which has at most
-    /// `precision` digits.
+    /// Makes an array of decimals of 128 bits. Row `i` is `values[i] * 10^-scale`. `precision` is
+    /// the greatest number of digits; the values are not checked. A slice is borrowed, and a vector
+    /// is owned.
     ///
     /// # Errors
     ///
@@ -61,8 +62,8 @@ impl<'a> Array<'a> {
         Ok(Array::flat(values.len(), format, vec![shared(values)]))
     }
 
-    /// Borrows truth values of a [`Bitmap`](crate::Bitmap) or a `&Mask`, or keeps those of a
-    /// [`Mask`](crate::Mask).
+    /// Makes an array of truth values. A [`Bitmap`](crate::Bitmap) or a `&Mask` is borrowed, and a
+    /// [`Mask`](crate::Mask) is owned.
     ///
     /// # Examples
     ///
@@ -85,16 +86,17 @@ impl<'a> Array<'a> {
         }
     }
 
-    /// Borrows or keeps texts: that of row `i` is the bytes from `offsets[i]` to `offsets[i + 1]`.
+    /// Makes an array of texts. The text of row `i` is `bytes[offsets[i]..offsets[i + 1]]`, so
+    /// there is one more offset than there are rows. If `offsets` is empty, there is no row. Slices
+    /// are borrowed, and vectors are owned.
     ///
-    /// Texts are compared as bytes. They are checked to be UTF-8 only with
-    /// [`EqualOptions::check_texts`](crate::EqualOptions::check_texts). Without offsets there is no
-    /// row.
+    /// Texts are compared byte by byte. Only
+    /// [`EqualOptions::check_texts`](crate::EqualOptions::check_texts) checks that they are UTF-8.
     ///
     /// # Errors
     ///
-    /// [`Error::BadOffsets`], if the offsets go back, and [`Error::OffsetsPastEnd`], if they end
-    /// after the bytes.
+    /// - [`Error::BadOffsets`], if an offset is negative or less than the offset before it.
+    /// - [`Error::OffsetsPastEnd`], if the last offset is greater than the number of bytes.
     ///
     /// # Examples
     ///
@@ -115,12 +117,14 @@ impl<'a> Array<'a> {
         Array::strings(O::TEXTS, offsets.into(), bytes.into())
     }
 
-    /// Borrows or keeps byte strings, as [`texts`](Array::texts) does with texts.
+    /// Makes an array of byte strings. Row `i` is `bytes[offsets[i]..offsets[i + 1]]`, so there is
+    /// one more offset than there are rows. If `offsets` is empty, there is no row. Slices are
+    /// borrowed, and vectors are owned.
     ///
     /// # Errors
     ///
-    /// [`Error::BadOffsets`], if the offsets go back, and [`Error::OffsetsPastEnd`], if they end
-    /// after the bytes.
+    /// - [`Error::BadOffsets`], if an offset is negative or less than the offset before it.
+    /// - [`Error::OffsetsPastEnd`], if the last offset is greater than the number of bytes.
     pub fn binary<O: Offset>(
         offsets: impl Into<Buffer<'a, O>>,
         bytes: impl Into<Buffer<'a, u8>>,
@@ -128,11 +132,12 @@ impl<'a> Array<'a> {
         Array::strings(O::BINARY, offsets.into(), bytes.into())
     }
 
-    /// Borrows or keeps byte strings of `width` bytes each.
+    /// Makes an array of `rows` byte strings of `width` bytes each, which are stored one after the
+    /// other. A slice is borrowed, and a vector is owned.
     ///
     /// # Errors
     ///
-    /// [`Error::WrongLength`], if there are fewer bytes than rows of this width.
+    /// [`Error::WrongLength`], if there are fewer than `rows * width` bytes.
     pub fn fixed_size_binary(
         rows: usize,
         width: usize,
@@ -144,7 +149,7 @@ impl<'a> Array<'a> {
         Ok(Array::flat(rows, format, vec![shared(bytes)]))
     }
 
-    /// Makes rows that are null and have no other type.
+    /// Makes an array of Arrow's null type: all `rows` rows are null.
     pub fn nulls(rows: usize) -> Self {
         Array::flat(rows, b"n\0".as_slice(), Vec::new())
     }
@@ -185,16 +190,18 @@ impl<'a> Array<'a> {
     }
 }
 
-/// Makes arrays of arrays.
+/// Constructors of nested arrays.
 impl<'a> Array<'a> {
-    /// Makes lists: that of row `i` has the items from `offsets[i]` to `offsets[i + 1]`. The
-    /// offsets are borrowed, or kept if they are a vector. Without offsets there is no row.
+    /// Makes an array of lists. The list of row `i` has the items from `offsets[i]` up to, but not
+    /// including, `offsets[i + 1]`, so there is one more offset than there are rows. If `offsets`
+    /// is empty, there is no row. A slice of offsets is borrowed, and a vector is owned.
     ///
     /// # Errors
     ///
-    /// [`Error::BadOffsets`], if the offsets go back; [`Error::OffsetsPastEnd`], if they end after
-    /// the items; [`Error::TooDeep`] for more than 64 levels of types in types;
-    /// [`Error::TooManyTypes`] for more than 2^20 types.
+    /// - [`Error::BadOffsets`], if an offset is negative or less than the offset before it.
+    /// - [`Error::OffsetsPastEnd`], if the last offset is greater than the number of items.
+    /// - [`Error::TooDeep`], if there are more than 64 levels of nested types.
+    /// - [`Error::TooManyTypes`], if there are more than 2^20 types.
     ///
     /// # Examples
     ///
@@ -217,26 +224,28 @@ impl<'a> Array<'a> {
         Array::nested(rows, O::LIST, buffers, Field::items(items), None)
     }
 
-    /// Makes lists of `width` items each.
+    /// Makes an array of `rows` lists of `width` items each, which come one list after the other.
     ///
     /// # Errors
     ///
-    /// [`Error::WrongLength`], if there are fewer items than rows of this width;
-    /// [`Error::TooDeep`] for more than 64 levels of types in types; [`Error::TooManyTypes`] for
-    /// more than 2^20 types.
+    /// - [`Error::WrongLength`], if there are fewer than `rows * width` items.
+    /// - [`Error::TooDeep`], if there are more than 64 levels of nested types.
+    /// - [`Error::TooManyTypes`], if there are more than 2^20 types.
     pub fn fixed_size_lists(rows: usize, width: usize, items: Array<'a>) -> Result<Self, Error> {
         has_at_least("items", items.rows, rows.saturating_mul(width))?;
         let format = format!("+w:{width}\0").into_bytes();
         Array::nested(rows, format, Vec::new(), Field::items(items), None)
     }
 
-    /// Makes structs of fields, each with a name and a column.
+    /// Makes an array of `rows` structs. Each field is a name and an array with the values of all
+    /// rows.
     ///
     /// # Errors
     ///
-    /// [`Error::WrongLength`], if a column has another number of rows; [`Error::BadName`], if a
-    /// name has a byte 0; [`Error::TooDeep`] for more than 64 levels of types in types;
-    /// [`Error::TooManyTypes`] for more than 2^20 types.
+    /// - [`Error::WrongLength`], if the array of a field does not have `rows` rows.
+    /// - [`Error::BadName`], if a name contains a zero byte.
+    /// - [`Error::TooDeep`], if there are more than 64 levels of nested types.
+    /// - [`Error::TooManyTypes`], if there are more than 2^20 types.
     ///
     /// # Examples
     ///
@@ -272,15 +281,16 @@ impl<'a> Array<'a> {
         Array::nested(rows, b"+s\0".as_slice(), Vec::new(), fields, None)
     }
 
-    /// Makes rows of a dictionary: row `i` is the entry `keys[i]`. The keys are borrowed, or kept
-    /// if they are a vector.
+    /// Makes an array of a dictionary. Row `i` is row `keys[i]` of `entries`. A slice of keys is
+    /// borrowed, and a vector is owned.
     ///
-    /// A key that names no entry is refused by the calls, unless its row is null.
+    /// The keys are not checked here. Calls return [`Error::BadArray`] if the key of a row that is
+    /// not null names no entry.
     ///
     /// # Errors
     ///
-    /// [`Error::TooDeep`] for more than 64 levels of types in types; [`Error::TooManyTypes`] for
-    /// more than 2^20 types.
+    /// - [`Error::TooDeep`], if there are more than 64 levels of nested types.
+    /// - [`Error::TooManyTypes`], if there are more than 2^20 types.
     ///
     /// # Examples
     ///
@@ -336,13 +346,13 @@ impl<'a> Array<'a> {
     }
 }
 
-/// Returns how many rows offsets make, if they rise and end within `has` bytes or items.
+/// Returns how many rows offsets make, if they do not decrease and end within `has` bytes or items.
 fn rows_of<O: Offset>(offsets: &[O], has: usize, what: &'static str) -> Result<usize, Error> {
     let (first, last) = match offsets {
         [] => return Ok(0),
         [first, ..] => (first.place(), offsets[offsets.len() - 1].place()),
     };
-    // All are looked at, since a loop without an early end is the faster one.
+    // The loop looks at all offsets, since a loop without an early end is faster.
     let goes_back = offsets
         .windows(2)
         .fold(false, |found, it| found | (it[1] < it[0]));
@@ -353,7 +363,7 @@ fn rows_of<O: Offset>(offsets: &[O], has: usize, what: &'static str) -> Result<u
     }
 }
 
-/// Refuses a length that is too short.
+/// Returns an error if `has` is less than `needs`.
 fn has_at_least(what: &str, has: usize, needs: usize) -> Result<(), Error> {
     if has < needs {
         return Err(Error::WrongLength {

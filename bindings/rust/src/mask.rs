@@ -1,4 +1,4 @@
-//! Truth values, one a row.
+//! Truth values, one for each row.
 #![forbid(unsafe_code)]
 
 use crate::bitmap::Bits;
@@ -6,10 +6,10 @@ use crate::{Bitmap, Error};
 use std::fmt;
 use std::ops::{BitAnd, BitOr, BitXor, Not};
 
-/// A truth value for each row: what a comparison returns, a validity, or a column.
+/// A truth value for each row: the result of a comparison, a validity, or the rows of a column.
 ///
-/// It is kept as a validity of Arrow is: row `i` is bit `i % 8` of byte `i / 8`. The bits after the
-/// last row are 0.
+/// The layout is that of Arrow's validity bitmaps: row `i` is bit `i % 8` of byte `i / 8`. The bits
+/// after the last row are 0.
 ///
 /// # Examples
 ///
@@ -60,17 +60,17 @@ impl Mask {
         self.rows == 0
     }
 
-    /// Returns the truth value of a row, or `None` if there is no such row.
+    /// Returns the truth value of a row, or `None` if `row` is not less than the number of rows.
     pub fn get(&self, row: usize) -> Option<bool> {
         (row < self.rows).then(|| self.bytes[row / 8] >> (row % 8) & 1 == 1)
     }
 
-    /// Returns the truth values, row by row.
+    /// Returns an iterator over the truth values, row by row.
     pub fn iter(&self) -> Bits<'_> {
         self.bitmap().iter()
     }
 
-    /// Returns how many rows are true.
+    /// Returns the number of rows that are true.
     pub fn count_set(&self) -> usize {
         self.bytes
             .iter()
@@ -83,12 +83,12 @@ impl Mask {
         self.count_set() == self.rows
     }
 
-    /// Returns `true` if a row is true.
+    /// Returns `true` if at least one row is true.
     pub fn any(&self) -> bool {
         self.bytes.iter().any(|&byte| byte != 0)
     }
 
-    /// Returns the indices of the rows that are true, ascending.
+    /// Returns an iterator over the indices of the rows that are true, in ascending order.
     pub fn set_indices(&self) -> impl Iterator<Item = usize> + '_ {
         self.iter()
             .enumerate()
@@ -96,17 +96,17 @@ impl Mask {
             .map(|(row, _)| row)
     }
 
-    /// Returns the bytes.
+    /// Borrows the bytes, each with the truth values of eight rows.
     pub fn as_bytes(&self) -> &[u8] {
         &self.bytes
     }
 
-    /// Returns the bytes.
+    /// Returns the bytes, each with the truth values of eight rows.
     pub fn into_bytes(self) -> Vec<u8> {
         self.bytes
     }
 
-    /// Borrows the truth values as bits.
+    /// Borrows the truth values as a [`Bitmap`].
     pub fn bitmap(&self) -> Bitmap<'_> {
         Bitmap::new(&self.bytes, 0, self.rows).expect("a mask has a bit for each row")
     }
@@ -188,9 +188,9 @@ macro_rules! joined {
 }
 
 joined! {
-    BitAnd: bitand, &, &=, "Returns the rows that are true in both masks.";
-    BitOr: bitor, |, |=, "Returns the rows that are true in one of the masks, or in both.";
-    BitXor: bitxor, ^, ^=, "Returns the rows that are true in one of the masks alone.";
+    BitAnd: bitand, &, &=, "Returns a mask of the rows that are true in both masks.";
+    BitOr: bitor, |, |=, "Returns a mask of the rows that are true in at least one of the masks.";
+    BitXor: bitxor, ^, ^=, "Returns a mask of the rows that are true in exactly one of the masks.";
 }
 
 impl Extend<bool> for Mask {
@@ -208,14 +208,14 @@ impl FromIterator<bool> for Mask {
 }
 
 impl From<Vec<bool>> for Mask {
-    /// Packs truth values, eight in a byte.
+    /// Packs truth values into bytes, eight in each.
     fn from(values: Vec<bool>) -> Mask {
         values.into_iter().collect()
     }
 }
 
 impl From<Bitmap<'_>> for Mask {
-    /// Copies bits.
+    /// Copies the bits.
     fn from(bits: Bitmap<'_>) -> Mask {
         bits.iter().collect()
     }

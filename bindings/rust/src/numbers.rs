@@ -1,4 +1,4 @@
-//! Columns of numbers of a type that is known at compile time.
+//! Columns of numbers whose type is known at compile time.
 #![forbid(unsafe_code)]
 
 use crate::arithmetic::copied;
@@ -14,11 +14,11 @@ use std::marker::PhantomData;
 use std::ops::{Deref, Range};
 use std::slice;
 
-/// An [`Array`] of numbers of type `T`, which are borrowed or owned. Some may be null.
+/// An [`Array`] of numbers of type `T`, which are borrowed or owned. Rows can be null.
 ///
-/// Arithmetic takes and returns these, so that types are checked when a program is compiled. All
-/// other calls take them as arrays. Those of one number for all rows are methods too, which return
-/// a number of type `T`.
+/// Arithmetic takes and returns `Numbers`, so a program that mixes number types does not compile.
+/// Calls that take an `&Array` also take `&Numbers`. The calls that return one number for a whole
+/// column are also methods of `Numbers`, and return a number of type `T`.
 ///
 /// # Examples
 ///
@@ -48,24 +48,27 @@ pub struct Numbers<'a, T> {
 }
 
 impl<'a, T: Number> Numbers<'a, T> {
-    /// Returns the numbers, whatever is stored under nulls. In a result of a call that is 0.
+    /// Returns the stored numbers, also those of null rows. In results of calls the numbers of null
+    /// rows are 0.
     pub fn values(&self) -> &[T] {
         self.array.values().expect("numbers of this type")
     }
 
-    /// Returns which rows are not null. Without a validity there is no null.
+    /// Returns the validity, whose bit is 1 if a row is not null, or `None` if the array has no
+    /// validity. Without a validity no row is null.
     pub fn validity(&self) -> Option<Bitmap<'_>> {
         self.array.validity()
     }
 
-    /// Returns a row, which is `Some(None)` for a null, or `None` if there is no such row.
+    /// Returns a row: `Some(Some(number))`, `Some(None)` for a null, or `None` if `row` is not less
+    /// than the number of rows.
     pub fn get(&self, row: usize) -> Option<Option<T>> {
         let is_present = self.validity().map_or(Some(true), |it| it.get(row));
         let value = self.values().get(row)?;
         Some(Some(*value).filter(|_| is_present == Some(true)))
     }
 
-    /// Returns the rows, with `None` for nulls.
+    /// Returns an iterator over the rows, with `None` for nulls.
     pub fn iter(&self) -> Rows<'_, T> {
         Rows {
             values: self.values().iter(),
@@ -73,11 +76,12 @@ impl<'a, T: Number> Numbers<'a, T> {
         }
     }
 
-    /// Says which rows are present, as [`Array::with_validity`] does.
+    /// Sets which rows are null, as [`Array::with_validity`] does.
     ///
     /// # Errors
     ///
-    /// [`Error::WrongLength`], if there is not one bit for each row; [`Error::NoMemory`].
+    /// [`Error::WrongLength`], if there is not one bit for each row; [`Error::NoMemory`], if an
+    /// allocation fails.
     ///
     /// # Examples
     ///
@@ -93,25 +97,25 @@ impl<'a, T: Number> Numbers<'a, T> {
         self.array.with_validity(present).map(Numbers::kept_as)
     }
 
-    /// Says what the numbers stand for, as [`Array::with_format`] does.
+    /// Sets the format of the numbers, as [`Array::with_format`] does.
     ///
     /// # Errors
     ///
-    /// Those of [`Array::with_format`].
+    /// The errors of [`Array::with_format`].
     pub fn with_format(self, format: &str) -> Result<Self, Error> {
         self.array.with_format(format).map(Numbers::kept_as)
     }
 
-    /// Returns `rows` rows, those from row `first` on. Nothing is copied.
+    /// Returns `rows` rows, from row `first` on, without a copy.
     ///
     /// # Errors
     ///
-    /// [`Error::SliceOutOfBounds`], if there are no such rows.
+    /// [`Error::SliceOutOfBounds`], if there are fewer than `first + rows` rows.
     pub fn slice(&self, first: usize, rows: usize) -> Result<Self, Error> {
         self.array.slice(first, rows).map(Numbers::kept_as)
     }
 
-    /// Returns the array.
+    /// Converts into an array, without a copy.
     pub fn into_array(self) -> Array<'a> {
         self.array
     }
@@ -125,13 +129,14 @@ impl<'a, T: Number> Numbers<'a, T> {
     }
 }
 
-/// One number for all rows.
+/// Calls that return one number for all rows.
 impl<T: Integer> Numbers<'_, T> {
-    /// Finds the least row that is not null, if there is one: [`min`](crate::min).
+    /// Returns the least of all rows that are not null, or `None` if there is no such row, as
+    /// [`min`](crate::min) does.
     ///
     /// # Errors
     ///
-    /// [`Error::NoMemory`].
+    /// [`Error::NoMemory`], if an allocation fails.
     ///
     /// # Examples
     ///
@@ -148,33 +153,34 @@ impl<T: Integer> Numbers<'_, T> {
         self.of_type(calls::min(self)?)
     }
 
-    /// Finds the greatest row that is not null, if there is one: [`max`](crate::max).
+    /// Returns the greatest of all rows that are not null, or `None` if there is no such row, as
+    /// [`max`](crate::max) does.
     ///
     /// # Errors
     ///
-    /// [`Error::NoMemory`].
+    /// [`Error::NoMemory`], if an allocation fails.
     pub fn max(&self) -> Result<Option<T>, Error> {
         self.of_type(calls::max(self)?)
     }
 
-    /// Finds the least and the greatest row that is not null, if there is one:
-    /// [`min_max`](crate::min_max).
+    /// Returns the least and the greatest of all rows that are not null, or `None` if there is no
+    /// such row, as [`min_max`](crate::min_max) does.
     ///
     /// # Errors
     ///
-    /// [`Error::NoMemory`].
+    /// [`Error::NoMemory`], if an allocation fails.
     pub fn min_max(&self) -> Result<Option<(T, T)>, Error> {
         let both = calls::min_max(self)?;
         let least = self.of_type(both.map(|it| it.0))?;
         Ok(least.zip(self.of_type(both.map(|it| it.1))?))
     }
 
-    /// Returns the sum of the rows that are not null, wrapped to the type, or `None` if no row is
-    /// present: [`wrapping_sum`](crate::wrapping_sum).
+    /// Returns the sum of all rows that are not null, or `None` if there is no such row, as
+    /// [`wrapping_sum`](crate::wrapping_sum) does. The sum wraps around in the type `T`.
     ///
     /// # Errors
     ///
-    /// [`Error::NoMemory`].
+    /// [`Error::NoMemory`], if an allocation fails.
     ///
     /// # Examples
     ///
@@ -188,12 +194,12 @@ impl<T: Integer> Numbers<'_, T> {
         self.of_type(calls::wrapping_sum(self)?)
     }
 
-    /// Joins the bits of all rows that are not null, if there is one:
-    /// [`reduce_bits`](crate::reduce_bits).
+    /// Combines all rows that are not null bit by bit, as [`reduce_bits`](crate::reduce_bits) does.
+    /// Returns `None` if there is no such row.
     ///
     /// # Errors
     ///
-    /// [`Error::NoMemory`].
+    /// [`Error::NoMemory`], if an allocation fails.
     ///
     /// # Examples
     ///
@@ -292,50 +298,49 @@ impl<'a, T> From<Numbers<'a, T>> for Array<'a> {
 }
 
 impl<'a, T: Number> From<&'a [T]> for Numbers<'a, T> {
-    /// Borrows numbers.
+    /// Borrows the numbers.
     fn from(values: &'a [T]) -> Self {
         Numbers::kept_as(Array::from(values))
     }
 }
 
 impl<'a, T: Number, const N: usize> From<&'a [T; N]> for Numbers<'a, T> {
-    /// Borrows numbers.
+    /// Borrows the numbers.
     fn from(values: &'a [T; N]) -> Self {
         Numbers::kept_as(Array::from(values))
     }
 }
 
 impl<'a, T: Number> From<&'a Vec<T>> for Numbers<'a, T> {
-    /// Borrows numbers.
+    /// Borrows the numbers.
     fn from(values: &'a Vec<T>) -> Self {
         Numbers::kept_as(Array::from(values))
     }
 }
 
 impl<T: Number> From<Vec<T>> for Numbers<'_, T> {
-    /// Keeps numbers.
+    /// Owns the numbers.
     fn from(values: Vec<T>) -> Self {
         Numbers::kept_as(Array::from(values))
     }
 }
 
 impl<T: Number> FromIterator<T> for Numbers<'_, T> {
-    /// Copies numbers.
+    /// Copies the numbers.
     fn from_iter<I: IntoIterator<Item = T>>(rows: I) -> Self {
         Numbers::kept_as(Array::from_iter(rows))
     }
 }
 
 impl<T: Number> FromIterator<Option<T>> for Numbers<'_, T> {
-    /// Copies numbers, with nulls for `None`.
+    /// Copies the numbers. `None` becomes a null.
     fn from_iter<I: IntoIterator<Item = Option<T>>>(rows: I) -> Self {
         Numbers::kept_as(Array::from_iter(rows))
     }
 }
 
 impl<T: Number> PartialEq for Numbers<'_, T> {
-    /// Returns `true` if the formats and the rows are the same. What is stored under nulls is not
-    /// looked at.
+    /// Returns `true` if formats and rows are the same. The numbers stored under nulls are ignored.
     fn eq(&self, other: &Self) -> bool {
         self.format() == other.format() && self.iter().eq(other.iter())
     }
@@ -371,7 +376,7 @@ impl<'a, T: Number> IntoIterator for Numbers<'a, T> {
     }
 }
 
-/// The rows of [`Numbers`], which it owns, with `None` for nulls.
+/// An iterator that owns [`Numbers`] and returns their rows, with `None` for nulls.
 #[derive(Clone, Debug)]
 pub struct IntoRows<'a, T: Number> {
     numbers: Numbers<'a, T>,
@@ -393,7 +398,7 @@ impl<T: Number> Iterator for IntoRows<'_, T> {
 impl<T: Number> ExactSizeIterator for IntoRows<'_, T> {}
 impl<T: Number> FusedIterator for IntoRows<'_, T> {}
 
-/// The rows of [`Numbers`], with `None` for nulls.
+/// An iterator over the rows of [`Numbers`], with `None` for nulls.
 #[derive(Clone, Debug)]
 pub struct Rows<'n, T> {
     values: slice::Iter<'n, T>,

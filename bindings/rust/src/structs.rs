@@ -10,7 +10,7 @@ use std::ptr;
 /// The type of a column, as the Arrow C data interface defines it.
 #[repr(C)]
 #[derive(Debug)]
-#[allow(missing_docs)] // the interface says what the members are
+#[allow(missing_docs)] // the interface documents the members
 pub struct ArrowSchema {
     pub format: *const c_char,
     pub name: *const c_char,

@@ -301,13 +301,14 @@ impl<'a> Foreign<'a> {
     }
 }
 
-/// Arrays of other crates.
+/// Columns of other crates.
 #[cfg(feature = "ffi")]
 impl<'a> crate::Array<'a> {
     /// Borrows a column that another crate has exported, such as an `FFI_ArrowArray` and an
-    /// `FFI_ArrowSchema` of arrow-rs, whose pointers are cast.
+    /// `FFI_ArrowSchema` of arrow-rs, whose pointers have to be cast.
     ///
-    /// Nothing is released. Types that the library does not serve are refused by its calls.
+    /// The array releases nothing. The type is not checked here: calls return
+    /// [`Error::Unsupported`](crate::Error::Unsupported) if they do not take the type.
     ///
     /// # Examples
     ///
@@ -324,7 +325,7 @@ impl<'a> crate::Array<'a> {
     /// println!("{:?}", dunkelva::wrapping_sum(&lent)?);
     /// ```
     ///
-    /// Structs that are filled in by hand:
+    /// Structs that a program fills in:
     ///
     /// ```
     /// use dunkelva::ffi::{ArrowArray, ArrowSchema};
@@ -369,18 +370,19 @@ impl<'a> crate::Array<'a> {
     ///
     /// # Safety
     ///
-    /// Each pointer is null, or points to a struct that keeps the rules of the
-    /// [Arrow C data interface](https://arrow.apache.org/docs/format/CDataInterface.html), and has
-    /// buffers as long as these ask. For `'a` nothing releases the structs or writes to them or to
-    /// what they point to, in this thread or another.
+    /// - Each pointer is null, or points to a struct that follows the rules of the
+    ///   [Arrow C data interface](https://arrow.apache.org/docs/format/CDataInterface.html), with
+    ///   buffers as long as these rules require.
+    /// - During the lifetime `'a` no thread releases the structs, or writes to them or to the
+    ///   memory to which they point.
     ///
-    /// No argument binds `'a`: the compiler takes any lifetime that fits, so that the caller has to
-    /// see that the array, and what is made of it, does not outlive the structs and the buffers.
+    /// No argument binds `'a`, and the compiler accepts any lifetime. So the caller must make sure
+    /// that the array, and everything made from it, does not outlive the structs and the buffers.
     ///
     /// # Errors
     ///
     /// [`Error::BadStructs`](crate::Error::BadStructs), if a pointer is null, if a struct was
-    /// released, or if the length or the offset is below 0.
+    /// released, or if the length or the offset is negative.
     pub unsafe fn from_raw(
         array: *const ArrowArray,
         schema: *const ArrowSchema,

@@ -1,6 +1,6 @@
 //! The Rust types of rows, offsets and keys, and their formats.
 //!
-//! A format ends with a byte 0, as C asks.
+//! A format ends with a zero byte, as in C.
 #![forbid(unsafe_code)]
 
 use std::fmt::Debug;
@@ -67,9 +67,10 @@ pub(crate) mod sealed {
     }
 }
 
-/// A type of numbers that an array keeps: `i8` to `i64`, `u8` to `u64`, `f32`, `f64`.
+/// A type of numbers that an array can store: `i8` to `i64`, `u8` to `u64`, `f32`, `f64`.
 ///
-/// Floats are compared by [`equal_with`](crate::equal_with) alone, with
+/// Floats are compared only by [`equal_with`](crate::equal_with) and
+/// [`equal_counted`](crate::equal_counted), with
 /// [`EqualOptions::floats_by_bits`](crate::EqualOptions::floats_by_bits).
 pub trait Number:
     sealed::Sealed + Copy + Debug + Default + PartialEq + Send + Sync + 'static
@@ -78,12 +79,12 @@ pub trait Number:
     const FORMAT: &'static [u8];
 }
 
-/// An integer type: `i8` to `i64`, `u8` to `u64`. Arithmetic is of these, and dictionaries have
-/// keys of one of them.
+/// A type of integers that an array can store: `i8` to `i64`, `u8` to `u64`. Arithmetic needs these
+/// types, and so do the keys of dictionaries.
 pub trait Integer: Number + AnyInteger + Ord + Into<i128> + TryFrom<i128> {}
 
-/// An integer type of a number that stands beside an array, or ends a range: `i8` to `i128`, `u8`
-/// to `u64`, `isize`, `usize`. A truth value is none:
+/// A type of integers that can be compared with an array, or be the ends of a range: `i8` to
+/// `i128`, `u8` to `u64`, `isize`, `usize`. `bool` is not such a type:
 ///
 /// ```compile_fail,E0277
 /// # use dunkelva::{compare_number, Array, Comparison};
@@ -93,7 +94,7 @@ pub trait AnyInteger: sealed::Widen {}
 
 impl<T: sealed::Widen> AnyInteger for T {}
 
-/// A type of offsets of texts, byte strings and lists: `i32` or `i64`.
+/// A type of offsets into bytes or items: `i32` or `i64`.
 pub trait Offset: Number + Ord {
     #[doc(hidden)]
     const TEXTS: &'static [u8];

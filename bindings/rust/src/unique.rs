@@ -1,4 +1,4 @@
-//! States of distinct values.
+//! States that collect distinct values.
 #![forbid(unsafe_code)]
 
 use crate::mask::zeros;
@@ -8,10 +8,12 @@ use crate::types::bounds;
 use crate::{AnyInteger, Array, Error};
 use std::ops::RangeInclusive;
 
-/// The distinct values of arrays whose rows are null or numbers of one range.
+/// A state that collects the distinct values of arrays. Each row must be null or a number of the
+/// state's range.
 ///
-/// It has a bit for each number of the range, and says nothing of how often a value came, or where.
-/// States can be made of parts of the rows, in other threads too, and merged.
+/// A state has one bit for each number of the range. It does not record how often a value came, or
+/// in which rows. Parts of the rows can be appended to different states, also in other threads, and
+/// the states can then be merged.
 ///
 /// # Examples
 ///
@@ -38,12 +40,12 @@ pub struct Unique {
 }
 
 impl Unique {
-    /// Makes a state that has seen nothing, for numbers of a range.
+    /// Makes an empty state for the numbers of a range.
     ///
     /// # Errors
     ///
-    /// [`Error::BadRange`], if the range is empty, or has 2^64 - 1 numbers or more, its ends
-    /// included; [`Error::NoMemory`], if there is no memory for a bit for each.
+    /// - [`Error::BadRange`], if the range is empty, or has 2^64 - 1 or more numbers.
+    /// - [`Error::NoMemory`], if the bits can't be allocated.
     pub fn new<N: AnyInteger>(range: RangeInclusive<N>) -> Result<Self, Error> {
         let (least, greatest) = range.into_inner();
         let (least, greatest) = (least.widen(), greatest.widen());
@@ -65,14 +67,17 @@ impl Unique {
         })
     }
 
-    /// Adds the rows of an array of whole numbers of 8 to 64 bits, or of what is kept as such:
-    /// dates, times, points in time, spans, decimals of 32 and 64 bits.
+    /// Adds the rows of an array of integers of 8 to 64 bits, dates, times, timestamps, durations,
+    /// or decimals of 32 and 64 bits.
     ///
     /// # Errors
     ///
-    /// They change nothing: [`Error::OutOfUniqueRange`], if a row is a number outside of the range;
-    /// [`Error::NotRepresentable`], if the array's type lacks an end of the range;
-    /// [`Error::Unsupported`] for other types; [`Error::NoMemory`].
+    /// After an error the state is unchanged.
+    ///
+    /// - [`Error::OutOfUniqueRange`], if a row that is not null is outside of the range.
+    /// - [`Error::NotRepresentable`], if the type of the array can't represent an end of the range.
+    /// - [`Error::Unsupported`], if the array has another type.
+    /// - [`Error::NoMemory`], if an allocation fails.
     pub fn append(&mut self, array: &Array<'_>) -> Result<(), Error> {
         let structs = Structs::of(array);
         let lowest = array.plain_format().and_then(bounds).map(|it| it.0);
@@ -85,11 +90,11 @@ impl Unique {
         })
     }
 
-    /// Adds what another state has seen.
+    /// Adds the values of another state, and its null if it has one.
     ///
     /// # Errors
     ///
-    /// [`Error::RangeMismatch`], if the states have other ranges.
+    /// [`Error::RangeMismatch`], if the states have different ranges.
     pub fn merge(&mut self, other: &Unique) -> Result<(), Error> {
         let (left, right) = (self.range(), other.range());
         if left != right {
@@ -99,16 +104,16 @@ impl Unique {
         self.change(|state| Error::check(sys::unique_merge(state, &other)))
     }
 
-    /// Returns how many rows are distinct. Null is one of them, if it was seen.
+    /// Returns the number of distinct rows. Null counts as one, if it was appended.
     pub fn count(&self) -> u64 {
         self.counts().1
     }
 
-    /// Returns the values that were seen, ascending.
+    /// Returns the distinct values in ascending order, without null.
     ///
     /// # Errors
     ///
-    /// [`Error::NoMemory`].
+    /// [`Error::NoMemory`], if an allocation fails.
     pub fn values(&self) -> Result<Vec<i128>, Error> {
         let count = usize::try_from(self.counts().0).map_err(|_| Error::NoMemory)?;
         let mut words = zeros(count)?;
@@ -130,17 +135,17 @@ impl Unique {
         Ok(values)
     }
 
-    /// Returns `true` if a null was seen.
+    /// Returns `true` if a null was appended.
     pub fn has_null(&self) -> bool {
         self.has_null
     }
 
-    /// Returns the range.
+    /// Returns the range of the state.
     pub fn range(&self) -> RangeInclusive<i128> {
         self.least..=self.greatest
     }
 
-    /// Counts the values that were seen, and the rows.
+    /// Counts the distinct values without and with null.
     fn counts(&self) -> (u64, u64) {
         let (mut values, mut rows) = (0, 0);
         Error::check(sys::unique_count(&self.view(), &mut values, &mut rows))

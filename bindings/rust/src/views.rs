@@ -1,4 +1,4 @@
-//! Columns of texts and byte strings whose rows are views.
+//! Columns of texts and byte strings that are stored as views.
 #![forbid(unsafe_code)]
 
 use crate::lent::{shared, Shared};
@@ -13,15 +13,20 @@ const INSIDE: usize = 12;
 /// The most bytes of a buffer, whose places are numbers of 32 bits.
 const MOST_BYTES: usize = i32::MAX as usize;
 
-/// Makes columns of views, which polars keeps its texts in.
+/// Constructors of arrays of views, in which polars stores its texts.
 impl<'a> Array<'a> {
-    /// Borrows texts by views of 16 bytes, one for each row. A view begins with the length in four
-    /// bytes. A text of at most 12 bytes follows, filled up with zeros. Of a longer one its first
-    /// four bytes follow, then the number of the buffer that has it, and where it begins there.
-    /// All numbers have the least byte first.
+    /// Makes an array of texts from views of 16 bytes, one for each row. Views and buffers are
+    /// borrowed.
     ///
-    /// A view that leads to no bytes, or to others than it begins with, is refused by the calls,
-    /// unless its row is null.
+    /// The first four bytes of a view are the length of the text in bytes. If the length is at most
+    /// 12, the other 12 bytes are the text, padded with zeros. If the text is longer, the next four
+    /// bytes are its first four bytes, then come the index of the buffer that has the whole text,
+    /// and the position in that buffer at which the text begins, in four bytes each. The lowest
+    /// byte of each number comes first.
+    ///
+    /// The views are not checked here. Calls return [`Error::BadArray`] if the view of a row that
+    /// is not null does not point to bytes of a buffer, or differs from the bytes to which it
+    /// points.
     ///
     /// # Examples
     ///
@@ -41,12 +46,13 @@ impl<'a> Array<'a> {
         Array::borrowed_views(TEXTS, views, buffers)
     }
 
-    /// Borrows byte strings by views, as [`text_views`](Array::text_views) borrows texts.
+    /// Makes an array of byte strings from views, as [`text_views`](Array::text_views) does for
+    /// texts.
     pub fn binary_views(views: &'a [u128], buffers: &[&'a [u8]]) -> Self {
         Array::borrowed_views(BINARY, views, buffers)
     }
 
-    /// Copies texts, as [`from_texts`](Array::from_texts) does, and makes views of them.
+    /// Copies texts as [`from_texts`](Array::from_texts) does, and stores them as views.
     ///
     /// # Errors
     ///
@@ -62,7 +68,7 @@ impl<'a> Array<'a> {
         Ok(views.into_array(TEXTS))
     }
 
-    /// Copies byte strings, as [`from_binary`](Array::from_binary) does, and makes views of them.
+    /// Copies byte strings as [`from_binary`](Array::from_binary) does, and stores them as views.
     ///
     /// # Errors
     ///

@@ -327,10 +327,22 @@ fn floats_are_refused_with_what_to_call() {
             .ends_with(": floats are compared by equal_with with floats_by_bits"));
     };
     let share = Array::numbers(&[0.5_f32]);
-    assert_eq!(equal(&share, &share), unsupported("f"));
+    let floats = || Err(Error::FloatsUnsupported { format: "f".into() });
+    assert_eq!(equal(&share, &share), floats());
     let number = Array::numbers(&[1]);
-    assert_eq!(equal(&number, &share), unsupported("f"));
-    assert_eq!(equal(&share, &number), unsupported("f"));
+    assert_eq!(equal(&number, &share), floats());
+    assert_eq!(equal(&share, &number), floats());
+    let counted = equal_counted(&share, &share, EqualOptions::new());
+    assert_eq!(counted.map(|(same, _)| same), floats());
+    // Other calls have no option for floats.
+    assert_eq!(
+        message(compare(&share, Comparison::Less, &share)),
+        "the call does not support the type f (Float32)"
+    );
+    assert_eq!(
+        message(wrapping_sum(&share)),
+        "the call does not support the type f (Float32)"
+    );
     told(&share);
     told(&Array::lists(&[0, 1], share.clone()).unwrap());
     let rows = [("id", Array::numbers(&[1])), ("share", share)];
@@ -430,6 +442,7 @@ fn each_error_has_a_message() {
         Error::TooDeep,
         Error::TooManyTypes,
         Error::Unsupported { format: text("g") },
+        Error::FloatsUnsupported { format: text("g") },
         Error::ForeignValidity,
         Error::BadArray,
         Error::BadStructs,

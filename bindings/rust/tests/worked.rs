@@ -168,7 +168,10 @@ fn floats_are_compared_by_their_bits_if_asked() -> Result<(), Error> {
     let left = Array::numbers(&[1.5, f64::NAN, 0.0]);
     let right = Array::numbers(&[1.5, f64::NAN, -0.0]);
     let format = "g".into();
-    assert_eq!(same(&left, &right), Err(Error::Unsupported { format }));
+    assert_eq!(
+        same(&left, &right),
+        Err(Error::FloatsUnsupported { format })
+    );
     assert_eq!(digits(&equal_with(&left, &right, FLOATS)?), "110");
     let halves = Array::numbers(&[0.5_f32]);
     assert_eq!(digits(&equal_with(&halves, &halves, FLOATS)?), "1");
