@@ -56,8 +56,8 @@ class Streamed:
     """
 
     def __init__(self, columns: Sequence[Any], schema: Any = None, fails_at: int = -1):
-        self.columns, self.fails_at = list(columns), fails_at
-        self.schema = self.columns[0].schema if schema is None else schema
+        self.chunks, self.fails_at = list(columns), fails_at
+        self.schema = self.chunks[0].schema if schema is None else schema
         self.handed = self.released = 0
         self.held: List[Any] = []
         self.text = ctypes.create_string_buffer(b"the disk is gone")
@@ -82,7 +82,7 @@ class Streamed:
         return pointer == ctypes.c_void_p.from_address(ctypes.addressof(self.schema)).value
 
     def __arrow_c_stream__(self, requested_schema: object = None) -> object:
-        left = iter(enumerate(self.columns))
+        left = iter(enumerate(self.chunks))
 
         def get_schema(_: int, out: int) -> int:
             self._hand(out, self.schema)

@@ -50,6 +50,25 @@ def test_message(left: Any, right: Any, error: Any, words: str) -> None:
     assert isinstance(raised.value, dunkelva.DunkelvaError)
 
 
+def test_fields_of_one_name() -> None:
+    """Names that come twice are refused, whatever rows are null."""
+    kind, rows = ("+s", [("a", "i"), ("a", "i")]), [(1, 2), None]
+    for count in (1, 2):
+        side = Exported(column(kind, rows[:count], 1))
+        with pytest.raises(dunkelva.TypesDiffer, match="left: a name comes twice among the colu"):
+            dunkelva.equal(side, side)
+
+
+def test_fields_that_are_missing() -> None:
+    """An array with fewer fields than its type is refused before its fields are matched."""
+    rows: Any = [(1, b"x"), None]
+    good = Exported(column(("+s", [("b", "u"), ("a", "i")]), [(b"x", 1), None], 5))
+    bad = broken(STRUCT, rows, set_children)
+    for sides in ((good, bad), (bad, good)):
+        with pytest.raises(dunkelva.BadArray):
+            dunkelva.equal(*sides)
+
+
 def test_types_that_differ_inside() -> None:
     kinds = [("+l", ("+s", [("a", "i"), ("b", form)])) for form in ("tsu:UTC", "tsu:Europe/Oslo")]
     sides = [Exported(column(kind, [[(1, 2)]], 1)) for kind in kinds]

@@ -153,6 +153,50 @@ def test_capsules() -> None:
                      [b"a", None, b"thirteen bytez"]) == [True, True, False]
 
 
+AB, BA = ("+s", [("a", "i"), ("b", "u")]), ("+s", [("b", "u"), ("a", "i")])
+
+
+@pytest.mark.parametrize("seed", range(4))
+def test_structs_with_and_without_nulls(seed: int) -> None:
+    """Fields of rows are matched by name, whatever rows are null."""
+    left: Any = [(1, b"x"), (2, b"y"), None]
+    right: Any = [(b"x", 1), (b"z", 2), None]
+    for rows, wanted in ((2, [True, False]), (3, [True, False, True])):
+        sides = column(AB, left[:rows], seed), column(BA, right[:rows], seed + 9)
+        assert equal(Exported(sides[0]), Exported(sides[1])) == wanted
+        chunks = [column(BA, part, seed) for part in (right[:1], right[1:rows])]
+        assert equal(Exported(sides[0]), Streamed(chunks)) == wanted
+        assert equal(Streamed(chunks), Exported(sides[0])) == wanted
+        with pytest.raises(dunkelva.TypesDiffer):
+            dunkelva.equal(Exported(sides[0]), Exported(column(
+                ("+s", [("b", "u"), ("c", "i")]), right[:rows], seed)))
+        lists = [Exported(column(("+l", kind), [part[:rows]], seed))
+                 for kind, part in ((AB, left), (BA, right))]
+        with pytest.raises(dunkelva.TypesDiffer, match="left has the fields"):
+            dunkelva.equal(*lists)
+        assert dunkelva.is_null(Exported(sides[0])).tolist() == [False, False, True][:rows]
+        assert dunkelva.is_null(Streamed(chunks)).tolist() == [False, False, True][:rows]
+    table = {"b": ["x", "y"], "a": [1, 2]}
+    assert equal(table, Exported(column(AB, left[:2], seed))) == [True, True]
+    assert equal(table, Exported(column(AB, [left[0], None], seed))) == [True, False]
+    records = np.array([(1, b"x")], [("a", "i4"), ("b", "S1")])
+    assert equal(records, records[["b", "a"]]) == [True]
+
+
+class Batch(Exported):
+    """A table of Arrow, as far as its names say that it is one."""
+
+    column_names = ["a", "b"]
+
+
+def test_tables_have_no_nulls() -> None:
+    table: Any = [(1, b"x"), (2, b"y")]
+    with pytest.raises(dunkelva.NotServed, match="column: it is a table"):
+        dunkelva.is_null(Batch(column(AB, table, 1)))
+    with pytest.raises(dunkelva.NotServed, match="column: it is a table"):
+        dunkelva.is_null(pd.DataFrame({"a": [1]}))
+
+
 CHUNKS: Any = ([1, 2], [], [None, 4, 5])
 
 

@@ -133,6 +133,34 @@ def test_nested_rows_of_streams() -> None:
     assert dunkelva.diff(left, whole, on="id").is_same
 
 
+def test_rows_of_structs() -> None:
+    """Rows that are null on one side alone are compared whole."""
+    kinds = ("+s", [("a", "i"), ("b", "u")]), ("+s", [("b", "u"), ("a", "i")])
+    left: Any = [(1, b"x"), (2, b"y"), None]
+    right: Any = [(b"x", 1), (b"z", 2), None]
+    for rows in (2, 3):
+        sides = [Exported(column(kind, side[:rows], 1))
+                 for kind, side in zip(kinds, (left, right))]
+        found = dunkelva.diff(*sides)
+        assert (found.same, found.changed, found.types) == (rows - 1, 1, {})
+    frame, dicts = pd.DataFrame({"a": [1, 2]}), [{"a": 1}, {"a": 2}]
+    dunkelva.assert_equal(frame, dicts)
+    dunkelva.assert_equal(dicts, dicts)
+    for side in (frame, dicts):
+        assert said(side, [{"a": 1}, None]) == lines("""
+            left and right differ: 1 changed, 1 the same.
+            row  left      right
+            1    {'a': 2}  null""")
+    mixed = Exported(column(kinds[0], [(1, b"x"), None], 1))
+    assert said({"b": ["x", "y"], "a": [1, 2]}, mixed) == lines("""
+        left and right differ: 1 changed, 1 the same.
+        row  left                right
+        1    {'b': 'y', 'a': 2}  null""")
+    assert said({"b": ["x", "y"], "a": ["x", "y"]}, mixed).startswith("left and right differ: left")
+    with pytest.raises(dunkelva.TypesDiffer, match="has rows that are null: a key needs columns"):
+        dunkelva.diff(mixed, mixed, on="a")
+
+
 def test_values_of_reports() -> None:
     """Reads rows of all types back, as they are shown."""
     for kind, row, shown in (

@@ -150,7 +150,7 @@ def test_refused() -> None:
     with pytest.raises(dunkelva.TypesDiffer):
         state.merge(dunkelva.Unique(0, 9, "i8"))
     parts: Any = ([1, None], [10])
-    with pytest.raises(dunkelva.OutOfRange, match="outside of the range"):
+    with pytest.raises(dunkelva.OutOfRange, match="outside of the range from 0 to 9"):
         state.append(Streamed([column("i", rows, 3) for rows in parts]))
     assert (len(state), state.has_null) == (0, False)
 

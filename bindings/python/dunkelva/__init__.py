@@ -1,12 +1,25 @@
-"""Compares columns and tables row by row, by kernels that are proved.
+"""Compares columns and tables row by row, with kernels that are proved.
 
 >>> equal([1, None, 3], [1, None, 4])
 array([ True,  True, False])
 
-A column is an array of numpy, masked or not, a Series of pandas, a list of Python values, or an
-object with `__arrow_c_array__` or `__arrow_c_stream__`, as those of pyarrow, polars and duckdb. A
-table is a DataFrame, an object with one of these methods or with `__dataframe__`, or a dict of
-columns. A null is equal to a null alone. Nested rows are compared as trees.
+A column is one of these objects:
+
+- a numpy array, which can be masked;
+- a Series, an Index or an array of pandas;
+- a list or tuple of Python values, in which None is a null;
+- an object with `__arrow_c_array__` or `__arrow_c_stream__`, such as a column of pyarrow, polars or
+  duckdb.
+
+A table is one of these objects:
+
+- a DataFrame of pandas, whose index is not compared;
+- a dict of columns;
+- an object with `__arrow_c_array__`, `__arrow_c_stream__` or `__dataframe__`, such as a table of
+  pyarrow, polars or duckdb.
+
+A null is equal only to a null. Lists are compared item by item, structs field by field, and
+dictionaries (categories) by the entries that their keys name.
 """
 from __future__ import annotations
 
@@ -23,7 +36,7 @@ from ._numbers import (compare, count_ones, count_zeros, is_null, leading_ones, 
                        min, min_max, reduce_and, reduce_or, reduce_xor, sum, trailing_ones,
                        trailing_zeros)
 from ._plain import equal_plain
-from ._sources import Table, pair, read, whole
+from ._sources import Table, as_rows, pair, pair_rows, read
 from ._unique import Unique, n_unique, unique
 
 __all__ = ["equal", "not_equal", "assert_equal", "diff", "Diff", "Difference",
@@ -39,19 +52,43 @@ __version__ = VERSION
 
 def equal(left: object, right: object, *, floats_by_bits: bool = False,
           check_texts: bool = False) -> npt.NDArray[np.bool_]:
-    """Returns a truth value for each row: True where the rows of both sides are the same.
+    """Compares two columns or two tables row by row.
 
-    A null is equal to a null alone. Two columns need one type and one length. Columns of tables are
-    matched by name, and two rows are the same where all their cells are. A list takes the type of
-    the other side.
+    A null is equal only to a null. The columns of two tables are matched by name, in any order, and
+    two rows are equal if all their cells are equal. Rows that are structs are compared like tables,
+    whether or not a row is null: their fields are matched by name. Structs inside of rows, such as
+    the items of lists, need the same fields in the same order.
 
-    Floats are compared with `floats_by_bits=True` alone: a NaN is then equal to a NaN of the same
-    bits, and -0.0 is not equal to 0.0. With `check_texts=True` texts that are not UTF-8 are
-    refused, which takes several times as long.
+    Parameters
+    ----------
+    left, right : column or table
+        Both sides need the same type and the same number of rows. The package's documentation says
+        which objects are columns and tables. A list takes the type of the other side.
+    floats_by_bits : bool
+        If True, floats are compared by their bits: a NaN is equal to a NaN with the same bits, and
+        -0.0 is not equal to 0.0. If False, floats are refused.
+    check_texts : bool
+        If True, texts that are not UTF-8 are refused. The check takes several times as long as the
+        comparison.
 
-    Raises TypesDiffer where the sides differ in type, length or columns, NotServed where a type
-    can't be compared, BadArray where an array breaks the rules of Arrow, and MemoryError.
+    Returns
+    -------
+    numpy.ndarray of bool
+        For each row True if the two rows are equal.
 
+    Raises
+    ------
+    TypesDiffer
+        If the sides differ in type, in the number of rows, or in the names of columns or fields.
+    NotServed
+        If rows of a type can't be compared.
+    BadArray
+        If an array breaks the rules of Arrow.
+    MemoryError
+        If an allocation fails.
+
+    Examples
+    --------
     >>> equal(np.array([1, 2, 3]), np.ma.array([1, 5, 3], mask=[False, False, True]))
     array([ True, False, False])
     >>> equal({"a": [1, 2], "b": [5, None]}, {"b": [5, 6], "a": [1, 2]})
@@ -68,11 +105,7 @@ def equal(left: object, right: object, *, floats_by_bits: bool = False,
     lefts, rights = read(left, "left"), read(right, "right")
     if isinstance(lefts, Table) and isinstance(rights, Table):
         return _equal_tables(lefts, rights, flags)
-    if isinstance(lefts, Table):
-        lefts = whole(lefts)
-    if isinstance(rights, Table):
-        rights = whole(rights)
-    return _compare(*pair(lefts, rights), flags)
+    return _compare(*pair_rows(as_rows(lefts, rights), as_rows(rights, lefts)), flags)
 
 
 def _equal_tables(left: Table, right: Table, flags: int) -> npt.NDArray[np.bool_]:
@@ -91,10 +124,17 @@ def _equal_tables(left: Table, right: Table, flags: int) -> npt.NDArray[np.bool_
 
 def not_equal(left: object, right: object, *, floats_by_bits: bool = False,
               check_texts: bool = False) -> npt.NDArray[np.bool_]:
-    """Returns a truth value for each row: True where the rows of both sides differ.
+    """Compares two columns or two tables row by row, and returns True for rows that differ.
 
-    It is `~equal(left, right)`, and raises the same.
+    The result is `~equal(left, right)`. The parameters and the exceptions are those of `equal`.
 
+    Returns
+    -------
+    numpy.ndarray of bool
+        For each row True if the two rows differ.
+
+    Examples
+    --------
     >>> not_equal([1, None, 3], [1, 2, None])
     array([False,  True,  True])
     """

@@ -103,15 +103,32 @@ def _changed(sign: int, column: object) -> Results:
 
 
 def add(left: object, right: object) -> Results:
-    """Returns the sums of the rows of both sides, as a masked array: null results are masked.
+    """Adds two columns row by row, or one value to each row of a column.
 
-    A side is a column of whole numbers, or one value for all rows. Two columns need one type and
-    one length, and a value has to be one of the column's type. Results have that type and are
-    wrapped to it, so that 100 and 100 are -56 in columns of int8. A result is null where a row is.
+    Results have the type of the column and wrap around in it: in columns of int8 100 + 100 is -56.
 
-    Raises TypesDiffer where the sides differ in type or length, and where the type of the column
-    has no such value; NotServed where a column has other rows than whole numbers.
+    Parameters
+    ----------
+    left, right : column of integers, or one value
+        At least one side is a column, of integers of 8 to 64 bits. Two columns need the same type
+        and length. A value must be a value of the column's type.
 
+    Returns
+    -------
+    numpy.ma.MaskedArray
+        The sums. A sum is masked if one of the two rows is null.
+
+    Raises
+    ------
+    TypesDiffer
+        If the columns differ in type or length, or if the type of the column has no such value.
+    NotServed
+        If a side is a table or a column of another type.
+    BadArray
+        If an array breaks the rules of Arrow.
+
+    Examples
+    --------
     >>> add([1, None, 3], [10, 20, 30]).tolist()
     [11, None, 33]
     >>> add(np.array([100, 27], np.int8), 100).tolist()
@@ -125,7 +142,9 @@ def add(left: object, right: object) -> Results:
 
 
 def subtract(left: object, right: object) -> Results:
-    """Returns the differences of the rows of both sides, as `add` returns sums.
+    """Subtracts `right` from `left` row by row.
+
+    Parameters, type of the result and exceptions are those of `add`.
 
     >>> subtract(np.array([5, 3], np.uint8), np.array([3, 5], np.uint8)).tolist()
     [2, 254]
@@ -136,7 +155,9 @@ def subtract(left: object, right: object) -> Results:
 
 
 def multiply(left: object, right: object) -> Results:
-    """Returns the products of the rows of both sides, as `add` returns sums.
+    """Multiplies `left` by `right` row by row.
+
+    Parameters, type of the result and exceptions are those of `add`.
 
     >>> multiply([2, 3], [4, None]).tolist()
     [8, None]
@@ -145,7 +166,10 @@ def multiply(left: object, right: object) -> Results:
 
 
 def floor_divide(left: object, right: object) -> Results:
-    """Returns the quotients, rounded down, as `add` returns sums. Null where the divisor is 0.
+    """Divides `left` by `right` row by row, and rounds the quotients down.
+
+    A quotient is also masked if the divisor is 0. Parameters, type of the result and exceptions are
+    those of `add`.
 
     >>> floor_divide([7, -7, 7], [2, 2, 0]).tolist()
     [3, -4, None]
@@ -154,7 +178,10 @@ def floor_divide(left: object, right: object) -> Results:
 
 
 def truncating_divide(left: object, right: object) -> Results:
-    """Returns the quotients, rounded toward 0, as `add` returns sums. Null where the divisor is 0.
+    """Divides `left` by `right` row by row, and rounds the quotients toward 0.
+
+    A quotient is also masked if the divisor is 0. Parameters, type of the result and exceptions are
+    those of `add`.
 
     >>> truncating_divide([7, -7, 7], [2, 2, 0]).tolist()
     [3, -3, None]
@@ -163,9 +190,10 @@ def truncating_divide(left: object, right: object) -> Results:
 
 
 def mod(left: object, right: object) -> Results:
-    """Returns the remainders that `floor_divide` leaves. Null where the divisor is 0.
+    """Returns the remainders of the division by `floor_divide`, row by row.
 
-    A remainder has the sign of the divisor, as `%` of Python, or is 0.
+    A remainder is 0 or has the sign of the divisor, as with Python's `%`. A remainder is also
+    masked if the divisor is 0. Parameters, type of the result and exceptions are those of `add`.
 
     >>> mod([7, -7, 7], 3).tolist()
     [1, 2, 1]
@@ -176,8 +204,27 @@ def mod(left: object, right: object) -> Results:
 
 
 def negative(column: object) -> Results:
-    """Returns each row negated, wrapped to its type, as a masked array: null rows are masked.
+    """Negates each row of a column of integers.
 
+    Results wrap around in the type of the column: in a column of int8 the negative of -128 is -128.
+
+    Parameters
+    ----------
+    column : column of integers
+        A column of integers of 8 to 64 bits.
+
+    Returns
+    -------
+    numpy.ma.MaskedArray
+        The negated rows. Null rows are masked.
+
+    Raises
+    ------
+    NotServed
+        If the argument is a table or a column of another type.
+
+    Examples
+    --------
     >>> negative(np.array([1, -128], np.int8)).tolist()
     [-1, -128]
     """
@@ -185,7 +232,10 @@ def negative(column: object) -> Results:
 
 
 def absolute(column: object) -> Results:
-    """Returns the distance of each row from 0, wrapped to its type, as a masked array.
+    """Returns the absolute value of each row of a column of integers.
+
+    Results wrap around in the type of the column: in a column of int8 the absolute value of -128 is
+    -128. The parameter, the type of the result and the exceptions are those of `negative`.
 
     >>> absolute([-3, None, 3]).tolist()
     [3, None, 3]

@@ -9,7 +9,7 @@ import numpy.typing as npt
 
 from ._library import FLOATS_BY_BITS, TypesDiffer, compare, compare_rows
 from ._match import Matched, match
-from ._sources import Rows, Side, Source, Table, pair, read, typed, whole
+from ._sources import Rows, Side, Source, Table, as_rows, pair, pair_rows, read, typed
 from ._structs import Column
 from ._values import gathered, values_at
 
@@ -18,10 +18,22 @@ _Places = npt.NDArray[np.int64]
 
 @dataclasses.dataclass(frozen=True)
 class Difference:
-    """A cell that differs, or a row that one side alone has.
+    """One difference between two tables: a cell that differs, or a row that only one side has.
 
-    `kind` is "changed", "removed" (only left) or "added" (only right). Rows count from 0. A removed
-    row has no `right_row`, an added one no `left_row`, and both have no `column`.
+    Attributes
+    ----------
+    kind : {"changed", "removed", "added"}
+        "changed" for a cell that differs, "removed" for a row that only left has, "added" for a row
+        that only right has.
+    key : tuple
+        The values of the key columns in this row. Empty if rows are matched by position.
+    left_row, right_row : int or None
+        The numbers of the rows, from 0. An added row has no `left_row`, and a removed row has no
+        `right_row`.
+    column : str or None
+        The name of the column with the cell. None for rows that only one side has.
+    left, right : object
+        The two cells. None for rows that only one side has.
     """
 
     kind: str
@@ -35,28 +47,28 @@ class Difference:
 
 @dataclasses.dataclass
 class Diff:
-    """What differs between two tables. `str` of it is a report."""
+    """All differences between two tables. `str` returns a report of them."""
 
-    #: The columns of the key; there are none where rows are compared by their places.
+    #: The columns of the key. Empty if rows were matched by position.
     key: Tuple[str, ...]
-    #: The numbers of rows that are the same, changed, only left (removed) and only right (added).
+    #: The numbers of rows that are the same, changed, only in left (removed) or right (added).
     same: int = 0
     changed: int = 0
     removed: int = 0
     added: int = 0
-    #: For each column that differs, the number of rows in which it does.
+    #: For each column with differences, the number of rows in which it differs.
     by_column: Dict[str, int] = dataclasses.field(default_factory=dict)
-    #: Columns that one side alone has.
+    #: The columns that only one side has.
     left_columns: Tuple[str, ...] = ()
     right_columns: Tuple[str, ...] = ()
-    #: For each column with another type on each side, the two types. Its rows are not compared.
+    #: For each column whose type differs, the two types. Its rows are not compared.
     types: Dict[str, Tuple[str, str]] = dataclasses.field(default_factory=dict)
-    #: The first differences, at most the number that was asked for.
+    #: The first differences, at most `limit`.
     differences: List[Difference] = dataclasses.field(default_factory=list)
 
     @property
     def is_same(self) -> bool:
-        """True where nothing differs."""
+        """True if there is no difference."""
         return not (self.changed or self.removed or self.added or self.left_columns
                     or self.right_columns or self.types)
 
@@ -68,14 +80,48 @@ class Diff:
 def diff(left: object, right: object, on: Union[str, Sequence[str]] = (), *,
          only: Optional[Iterable[str]] = None, ignore: Iterable[str] = (),
          floats_by_bits: bool = False, limit: Optional[int] = None) -> Diff:
-    """Compares two tables whose rows belong together where they have the same key.
+    """Compares two tables. Rows are matched by a key, or by position.
 
-    `on` names the columns of the key. A key that comes twice is matched in order, the first row
-    with the first and the second with the second. A null in a key is equal to a null. Without `on`
-    rows are compared by their places. Columns are matched by name, in any order. `only` names the
-    columns to compare, `ignore` those to leave out; those of the key are always compared. At most
-    `limit` differences are kept, while all are counted.
+    Columns are matched by name, in any order. If a key comes more than once, its rows are matched
+    in order: the first row of left with the first row of right, and so on. A null in a key is equal
+    only to a null. Without a key two columns can be compared as well. If a side is a column, or has
+    a row that is null, whole rows are compared.
 
+    Parameters
+    ----------
+    left, right : table or column
+        The two sides.
+    on : str or sequence of str
+        The columns of the key, or levels of the index of a DataFrame. Without `on` rows are matched
+        by position.
+    only : str or iterable of str, optional
+        The columns to compare, besides those of the key. If not given, all columns are compared.
+    ignore : str or iterable of str
+        The columns that are not compared.
+    floats_by_bits : bool
+        As in `equal`.
+    limit : int, optional
+        The most differences in the result's list `differences`. All differences are counted.
+
+    Returns
+    -------
+    Diff
+        The counts and the differences. A column whose type differs is in `types`, and its rows are
+        not compared.
+
+    Raises
+    ------
+    KeyError
+        If a name in `on` is not in both tables, or a name in `only` or `ignore` is in no table.
+    TypesDiffer
+        If a key column differs in type, or if there is a key and a side is no table.
+    NotServed
+        If rows of a type can't be compared, or if a key column has floats.
+    BadArray
+        If an array breaks the rules of Arrow.
+
+    Examples
+    --------
     >>> old = {"id": [1, 2, 3], "n": [10, 12, None]}
     >>> new = {"id": [3, 1, 4], "n": [None, 11, 13]}
     >>> found = diff(old, new, on="id")
@@ -90,12 +136,13 @@ def diff(left: object, right: object, on: Union[str, Sequence[str]] = (), *,
     """
     key = (on,) if isinstance(on, str) else tuple(on)
     sources = read(left, "left"), read(right, "right")
-    are_tables = [isinstance(source, Table) for source in sources]
+    are_tables = [isinstance(source, Table) or _is_records(source) for source in sources]
     if not key and all(map(len, sources)) and any(are_tables) and not all(are_tables):
-        # rows that are structs on one side, and structs or nulls on the other
-        sources = _without_names(sources[0]), _without_names(sources[1])
-    lefts = as_table(sources[0], "left", left, key)
-    rights = as_table(sources[1], "right", right, key)
+        # one side has rows that are no structs, or null: rows are compared whole
+        lefts, rights = _one_column(*sources), _one_column(*sources[::-1])
+    else:
+        lefts = as_table(sources[0], "left", left, key)
+        rights = as_table(sources[1], "right", right, key)
     lefts, rights = _filled(lefts, rights), _filled(rights, lefts)
     flags = FLOATS_BY_BITS if floats_by_bits else 0
     if not lefts.columns and not rights.columns and not lefts.rows and not rights.rows:
@@ -126,8 +173,7 @@ def diff(left: object, right: object, on: Union[str, Sequence[str]] = (), *,
 
 def as_table(source: Source, side: str, value: object, key: Tuple[str, ...]) -> Table:
     """Returns a source as a table. A column is a table of one column without a name."""
-    if isinstance(source, Rows) and (source.values or key) and all(
-            isinstance(row, dict) for row in source.values):
+    if isinstance(source, Rows) and (_is_records(source) or key and not source.values):
         rows = [row for row in source.values if isinstance(row, dict)]
         names = list(dict.fromkeys(str(name) for row in rows for name in row))
         return Table({name: Rows([row.get(name) for row in rows]) for name in names}, len(rows))
@@ -148,7 +194,7 @@ def _pair(left: Side, right: Side, name: str) -> Tuple[Column, Column]:
     """Makes columns of one type of two sides where that can be, and else of the type of each."""
     what = f"column {name!r}: " if name else ""
     try:
-        return pair(left, right, what)
+        return pair(left, right, what) if name else pair_rows(left, right)
     except TypesDiffer:
         return typed(left, None, what + "left"), typed(right, None, what + "right")
 
@@ -160,9 +206,19 @@ def _filled(table: Table, other: Table) -> Table:
     return Table({name: Rows([]) for name in other.columns}, 0)
 
 
-def _without_names(source: Source) -> Source:
-    """Returns a table as a column of structs."""
-    return Table({"": whole(source)}, len(source)) if isinstance(source, Table) else source
+def _is_records(source: Source) -> bool:
+    """Says whether a source is a list of dicts, none of which is missing."""
+    return isinstance(source, Rows) and len(source) > 0 and all(
+        isinstance(row, dict) for row in source.values)
+
+
+def _one_column(source: Source, other: Source) -> Table:
+    """Returns the rows of a source as a table of one column without a name."""
+    try:
+        rows = as_rows(source, other)
+    except TypesDiffer:
+        rows = as_rows(source, source)
+    return Table({"": rows}, len(source))
 
 
 def _chosen(left: Table, right: Table, key: Tuple[str, ...], only: Optional[Iterable[str]],
@@ -265,11 +321,26 @@ def _chunks(column: Column, rows: _Places) -> Tuple[_Places, _Places]:
 def assert_equal(left: object, right: object, *, key: Union[str, Sequence[str]] = (),
                  only: Optional[Iterable[str]] = None, ignore: Iterable[str] = (),
                  floats_by_bits: bool = False, show: int = 20) -> None:
-    """Raises AssertionError where two tables or two columns differ, with a table of what differs.
+    """Raises an AssertionError with a report if two tables or two columns differ.
 
-    The arguments are those of `diff`, with `key` in place of `on` and without `limit`. `show` says
-    how many differences are shown.
+    Parameters
+    ----------
+    left, right, only, ignore, floats_by_bits
+        As in `diff`.
+    key : str or sequence of str
+        The columns of the key, as `on` in `diff`.
+    show : int
+        The most differences in the report.
 
+    Raises
+    ------
+    AssertionError
+        If there is a difference.
+    DunkelvaError, KeyError
+        As in `diff`.
+
+    Examples
+    --------
     >>> assert_equal([1, None, 3], [1, None, 3])
     >>> assert_equal({"id": [1, 2], "n": [5, 6]}, {"id": [2, 1], "n": [7, 5]}, key="id")
     Traceback (most recent call last):

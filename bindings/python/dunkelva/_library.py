@@ -21,23 +21,25 @@ OUT_OF_RANGE = 8
 
 
 class DunkelvaError(ValueError):
-    """A comparison that has no result."""
+    """The base class of the exceptions of this package. MemoryError and KeyError are not among
+    them.
+    """
 
 
 class TypesDiffer(DunkelvaError, TypeError):
-    """The two sides are not of one type or length."""
+    """The two sides differ in type, in length or in their columns, or a value is not of a type."""
 
 
 class BadArray(DunkelvaError):
-    """An array of Arrow that breaks the rules of its format."""
+    """An array breaks the rules of Arrow."""
 
 
 class NotServed(DunkelvaError, TypeError):
-    """A type that can't be compared."""
+    """A call does not take this object or this type of column."""
 
 
 class OutOfRange(DunkelvaError):
-    """A row that lies outside of the range of a state of distinct values."""
+    """A row is outside of the range of a state of distinct values."""
 
 
 for _error in (DunkelvaError, TypesDiffer, BadArray, NotServed, OutOfRange):
@@ -85,8 +87,6 @@ def refusal(status: int, what: str, type: Type) -> Exception:
         return MemoryError("dunkelva: an allocation failed")
     if status == _NOT_SERVED:
         return NotServed(f"{what} is {type}, which is not served here")
-    if status == OUT_OF_RANGE:
-        return OutOfRange(f"{what}, {type}: {_said(status)}")
     if status == _TYPES_DIFFER:
         return TypesDiffer(f"{what}, {type}: {_said(status)}")
     if status in (_BAD_ARRAY, _BAD_STRUCTS, _BAD_ARGUMENT):

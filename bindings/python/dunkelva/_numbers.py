@@ -58,6 +58,20 @@ def _column(value: object) -> Column:
     return one_column(value, "column")
 
 
+# Attributes that a DataFrame, a Table or a RecordBatch has, and a column of structs has not.
+_OF_TABLES = ("__dataframe__", "columns", "column_names")
+
+
+def _rows_of(value: object) -> Column:
+    """Reads a column. A column of structs is no table here, also if no row is null."""
+    source = read(value, "column")
+    if not isinstance(source, Table):
+        return typed(source, None, "column")
+    if source.whole is None or any(hasattr(value, name) for name in _OF_TABLES):
+        raise NotServed("column: it is a table")
+    return source.whole
+
+
 def is_one_value(value: object) -> bool:
     """Says whether an argument is one value for all rows, and no column."""
     return not any(hasattr(value, name) for name in (
@@ -93,15 +107,34 @@ def number_of_value(column: Column, value: object, names: Tuple[str, str]) -> Nu
 
 
 def is_null(column: object) -> npt.NDArray[np.bool_]:
-    """Returns a truth value for each row: True where the row is null.
+    """Finds the null rows of a column.
 
-    Serves the types of `equal`. Floats need no flag.
+    Parameters
+    ----------
+    column : column
+        A column of any type that `equal` takes, or of floats. A column of structs is taken whether
+        or not a row is null. Tables are refused: DataFrames, dicts, and Arrow objects with
+        `__dataframe__`, `columns` or `column_names`.
 
+    Returns
+    -------
+    numpy.ndarray of bool
+        For each row True if the row is null.
+
+    Raises
+    ------
+    NotServed
+        If the argument is a table, or a column of another type.
+    BadArray
+        If an array breaks the rules of Arrow.
+
+    Examples
+    --------
     >>> is_null(["a", None, "c"])
     array([False,  True, False])
     """
     masks = []
-    held = _column(column)
+    held = _rows_of(column)
     for chunk in held.chunks:
         out = bits_for(len(chunk))
         status = _is_null(chunk.schema, chunk.array, address_of(out), out.size, None)
@@ -112,16 +145,37 @@ def is_null(column: object) -> npt.NDArray[np.bool_]:
 
 
 def compare(left: object, test: str, right: object) -> npt.NDArray[np.bool_]:
-    """Returns a truth value for each row: True where the test holds of the rows of both sides.
+    """Compares two columns of numbers row by row, or each row of a column with one value.
 
-    The tests are "==", "!=", "<", "<=", ">" and ">=". For the first two a null is equal to a null
-    alone; the others hold of no null. `right` is a column, or one value for all rows. Serves
-    columns that are kept as whole numbers of 8 to 64 bits: numbers, dates, times, spans, points in
-    time, decimals of 32 and 64 bits. For other columns there is `equal`.
+    Parameters
+    ----------
+    left : column of numbers
+        A column of integers of 8 to 64 bits, dates, times, durations, timestamps, or decimals of 32
+        or 64 bits. For other columns see `equal`.
+    test : {"==", "!=", "<", "<=", ">", ">="}
+        The comparison. For "==" and "!=" a null is equal only to a null. The other comparisons are
+        False if a row is null.
+    right : column of numbers, or one value
+        A column of the same type and length as `left`, or a value of this type.
 
-    Raises TypesDiffer where the sides differ in type or length, and where the type of left has no
-    such value.
+    Returns
+    -------
+    numpy.ndarray of bool
+        For each row True if the comparison is true.
 
+    Raises
+    ------
+    ValueError
+        If `test` is none of the six comparisons.
+    TypesDiffer
+        If the columns differ in type or length, or if the type of `left` has no such value.
+    NotServed
+        If a side is a table or a column of another type.
+    BadArray
+        If an array breaks the rules of Arrow.
+
+    Examples
+    --------
     >>> compare([1, None, 3], "<", [2, 2, 2])
     array([ True, False, False])
     >>> compare(np.array([1, 2, 3], np.uint8), ">=", 2)
@@ -192,11 +246,29 @@ def _wrapped(number: int, type: Type) -> int:
 
 
 def sum(column: object) -> Any:
-    """Returns the sum of all rows that are no nulls, or None where there is no such row.
+    """Adds all rows of a column that are not null.
 
-    The sum is wrapped to the type of the column, so that 100 and 100 are -56 in a column of int8.
-    Serves numbers, spans of time and decimals of 32 and 64 bits.
+    The sum wraps around in the type of the column: in a column of int8 the sum of 100 and 100 is
+    -56.
 
+    Parameters
+    ----------
+    column : column of numbers
+        A column of integers of 8 to 64 bits, durations, or decimals of 32 or 64 bits. Dates, times
+        of day and timestamps have no sum.
+
+    Returns
+    -------
+    int, numpy.timedelta64, decimal.Decimal or None
+        The sum, or None if all rows are null or there are no rows.
+
+    Raises
+    ------
+    NotServed
+        If the argument is a table or a column of another type.
+
+    Examples
+    --------
     >>> sum([1, None, 3])
     4
     >>> sum(np.array([100, 100], np.int8))
@@ -209,11 +281,26 @@ def sum(column: object) -> Any:
 
 
 def min_max(column: object) -> Tuple[Any, Any]:
-    """Returns the least and the greatest row that is no null, or None twice where all are nulls.
+    """Finds the least and the greatest row of a column that are not null.
 
-    Serves the columns that `compare` serves. Numbers are those of Python, dates and points in time
-    are those of numpy.
+    Parameters
+    ----------
+    column : column of numbers
+        A column of a type that `compare` takes.
 
+    Returns
+    -------
+    tuple of two values
+        The least and the greatest row, or (None, None) if all rows are null or there are no rows.
+        Numbers are Python's, and dates and timestamps are numpy's.
+
+    Raises
+    ------
+    NotServed
+        If the argument is a table or a column of another type.
+
+    Examples
+    --------
     >>> min_max([3, None, 1])
     (1, 3)
     >>> min_max(np.array(["2024-02-01", "2024-01-01"], "M8[s]"))[0]
@@ -244,7 +331,9 @@ def extremes(held: Column) -> Tuple[Optional[int], Optional[int]]:
 
 
 def min(column: object) -> Any:
-    """Returns the least row that is no null, or None where all are nulls. See `min_max`.
+    """Returns the least row that is not null, or None if there is no such row.
+
+    The parameter and the exceptions are those of `min_max`.
 
     >>> min([3, None, 1])
     1
@@ -253,7 +342,9 @@ def min(column: object) -> Any:
 
 
 def max(column: object) -> Any:
-    """Returns the greatest row that is no null, or None where all are nulls. See `min_max`.
+    """Returns the greatest row that is not null, or None if there is no such row.
+
+    The parameter and the exceptions are those of `min_max`.
 
     >>> max([3, None, 1])
     3
@@ -266,7 +357,10 @@ def _bits_of(column: object, join: int, by: Callable[[int, int], int]) -> Option
 
 
 def reduce_and(column: object) -> Optional[int]:
-    """Returns the bits that are 1 in all rows that are no nulls, or None where all are nulls.
+    """Combines all rows that are not null by bitwise and.
+
+    Returns an int, or None if all rows are null or there are no rows. The parameter and the
+    exceptions are those of `min_max`.
 
     >>> reduce_and([6, None, 3])
     2
@@ -275,7 +369,10 @@ def reduce_and(column: object) -> Optional[int]:
 
 
 def reduce_or(column: object) -> Optional[int]:
-    """Returns the bits that are 1 in a row that is no null, or None where all are nulls.
+    """Combines all rows that are not null by bitwise or.
+
+    Returns an int, or None if all rows are null or there are no rows. The parameter and the
+    exceptions are those of `min_max`.
 
     >>> reduce_or([6, None, 3])
     7
@@ -284,7 +381,10 @@ def reduce_or(column: object) -> Optional[int]:
 
 
 def reduce_xor(column: object) -> Optional[int]:
-    """Returns the bits that are 1 in an odd number of rows that are no nulls, or None.
+    """Combines all rows that are not null by bitwise exclusive or.
+
+    Returns an int, or None if all rows are null or there are no rows. The parameter and the
+    exceptions are those of `min_max`.
 
     >>> reduce_xor([6, None, 3])
     5
@@ -308,8 +408,25 @@ def _counted(value: object, which: int) -> Counts:
 
 
 def count_ones(column: object) -> Counts:
-    """Returns how many bits of each row are 1, as a masked array: null rows are masked.
+    """Counts the bits of each row that are 1.
 
+    Parameters
+    ----------
+    column : column of numbers
+        A column of a type that `compare` takes.
+
+    Returns
+    -------
+    numpy.ma.MaskedArray of uint32
+        The count of each row. Null rows are masked.
+
+    Raises
+    ------
+    NotServed
+        If the argument is a table or a column of another type.
+
+    Examples
+    --------
     >>> count_ones(np.array([0, 7, -1], np.int8)).tolist()
     [0, 3, 8]
     >>> count_ones([5, None]).tolist()
@@ -319,7 +436,9 @@ def count_ones(column: object) -> Counts:
 
 
 def count_zeros(column: object) -> Counts:
-    """Returns how many bits of each row are 0, as a masked array: null rows are masked.
+    """Counts the bits of each row that are 0.
+
+    The parameter, the type of the result and the exceptions are those of `count_ones`.
 
     >>> count_zeros(np.array([0, 7, -1], np.int8)).tolist()
     [8, 5, 0]
@@ -328,7 +447,9 @@ def count_zeros(column: object) -> Counts:
 
 
 def leading_ones(column: object) -> Counts:
-    """Returns how many of the upper bits of each row are 1 before one is 0, as a masked array.
+    """Counts the highest bits of each row that are 1, down to the first 0.
+
+    The parameter, the type of the result and the exceptions are those of `count_ones`.
 
     >>> leading_ones(np.array([0, 7, -4], np.int8)).tolist()
     [0, 0, 6]
@@ -337,7 +458,9 @@ def leading_ones(column: object) -> Counts:
 
 
 def leading_zeros(column: object) -> Counts:
-    """Returns how many of the upper bits of each row are 0 before one is 1, as a masked array.
+    """Counts the highest bits of each row that are 0, down to the first 1.
+
+    The parameter, the type of the result and the exceptions are those of `count_ones`.
 
     >>> leading_zeros(np.array([0, 7, -4], np.int8)).tolist()
     [8, 5, 0]
@@ -346,7 +469,9 @@ def leading_zeros(column: object) -> Counts:
 
 
 def trailing_ones(column: object) -> Counts:
-    """Returns how many of the lower bits of each row are 1 before one is 0, as a masked array.
+    """Counts the lowest bits of each row that are 1, up to the first 0.
+
+    The parameter, the type of the result and the exceptions are those of `count_ones`.
 
     >>> trailing_ones(np.array([0, 7, -4], np.int8)).tolist()
     [0, 3, 0]
@@ -355,7 +480,9 @@ def trailing_ones(column: object) -> Counts:
 
 
 def trailing_zeros(column: object) -> Counts:
-    """Returns how many of the lower bits of each row are 0 before one is 1, as a masked array.
+    """Counts the lowest bits of each row that are 0, up to the first 1.
+
+    The parameter, the type of the result and the exceptions are those of `count_ones`.
 
     >>> trailing_zeros(np.array([0, 7, -4], np.int8)).tolist()
     [8, 0, 2]

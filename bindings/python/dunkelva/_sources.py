@@ -10,7 +10,7 @@ import numpy.typing as npt
 from ._library import NotServed, TypesDiffer, BadArray
 from ._rows import Unfit, build, infer, is_missing, with_none
 from ._structs import (Chunk, Column, fields_of, from_capsules, from_stream, make, memory,
-                       no_rows, packed, validity)
+                       no_rows, packed, reordered, validity)
 from ._types import NUMBERS, Type
 
 _FORMATS = {kind: form for form, kind in NUMBERS.items()}
@@ -100,12 +100,18 @@ def _columns(columns: Mapping[str, object]) -> Table:
 
 
 def _table_or_column(column: Column) -> Source:
-    """Returns structs without null rows as a table, and other rows as they are."""
-    if column.type.format != "+s" or any(map(_has_null, column.chunks)):
+    """Returns structs without null rows as a table, and other rows as they are.
+
+    Null rows decide which form structs have here, but not which rows are equal: the fields of both
+    forms are matched by name (`pair_rows`).
+    """
+    if column.type.format != "+s" or column.type.entries is not None:
         return column
     names = [name for name, _ in column.type.children]
     if len(set(names)) < len(names):
         raise Unfit(f"a name comes twice among the columns {names}")
+    if any(map(_has_null, column.chunks)):
+        return column
     fields = [fields_of(chunk) for chunk in column.chunks]
     columns = {name: Column([chunk[k] for chunk in fields]) for k, name in enumerate(names)}
     return Table(columns, len(column), column)
@@ -121,17 +127,28 @@ def _has_null(chunk: Chunk) -> bool:
     return not bits[array.offset % 8:][:array.length].all()
 
 
-def whole(table: Table) -> Column:
-    """Returns a table as a column of structs."""
+def whole(table: Table, kind: Optional[Type] = None) -> Column:
+    """Returns a table as a column of structs.
+
+    Python values take the types of the fields of `kind`, if this is a type of structs.
+    """
     if table.whole is not None:
         return table.whole
+    kinds = dict(kind.children) if kind is not None and kind.format == "+s" else {}
     columns: List[Tuple[str, Column]] = []
     for name, side in table.columns.items():
-        columns.append((name, typed(side, None, name)))
+        columns.append((name, typed(side, kinds.get(name), name)))
     if any(len(column.chunks) > 1 for _, column in columns):
         raise NotServed("a table in chunks is no column")
     kind = Type("+s", tuple((name, column.type) for name, column in columns))
     return Column([make(kind, table.rows, [None], [column.chunks[0] for _, column in columns])])
+
+
+def as_rows(source: Source, other: Source) -> Side:
+    """Returns a table as a column of structs, to compare it with `other`."""
+    if isinstance(source, Table):
+        return whole(source, other.type if isinstance(other, Column) else None)
+    return source
 
 
 def typed(side: Side, kind: Optional[Type], what: str) -> Column:
@@ -157,6 +174,21 @@ def pair(left: Side, right: Side, what: str = "") -> Tuple[Column, Column]:
     left_type = left.type if isinstance(left, Column) else None
     right_type = right.type if isinstance(right, Column) else None
     return typed(left, right_type, what + "left"), typed(right, left_type, what + "right")
+
+
+def pair_rows(left: Side, right: Side, what: str = "") -> Tuple[Column, Column]:
+    """Makes columns of two sides as `pair` does. The fields of structs get the order of left."""
+    lefts, rights = pair(left, right, what)
+    names = [name for name, _ in lefts.type.children]
+    others = [name for name, _ in rights.type.children]
+    if lefts.type.format != "+s" or rights.type.format != "+s" or names == others or (
+            len(set(names)) < len(names) or sorted(names) != sorted(others)):
+        return lefts, rights
+    try:
+        order = [others.index(name) for name in names]
+        return lefts, Column([reordered(chunk, order) for chunk in rights.chunks])
+    except ValueError as error:
+        raise BadArray(f"{what}right: {error}") from error
 
 
 def _numpy(array: npt.NDArray[Any], nulls: _Nulls = None) -> Side:

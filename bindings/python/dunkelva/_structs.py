@@ -218,12 +218,29 @@ def no_rows(type: Type) -> Chunk:
     return make(type, 0, [None] * type.buffers(), children, entries)
 
 
-def fields_of(chunk: Chunk) -> List[Chunk]:
-    """Returns the fields of structs, cut to the rows of these."""
-    fields = []
+def _check_fields(chunk: Chunk) -> None:
+    """Refuses structs whose array has more or fewer fields than their type."""
     if chunk.array.n_children != len(chunk.type.children):
         raise ValueError(f"its type has {len(chunk.type.children)} fields, its array has "
                          f"{chunk.array.n_children}")
+
+
+def reordered(chunk: Chunk, order: Sequence[int]) -> Chunk:
+    """Returns structs with their fields in another order. `order` has the index of each field."""
+    _check_fields(chunk)
+    schema = ArrowSchema.from_buffer_copy(chunk.schema)
+    array = ArrowArray.from_buffer_copy(chunk.array)
+    schemas = (_POINTER(ArrowSchema) * len(order))(*[chunk.schema.children[k] for k in order])
+    arrays = (_POINTER(ArrowArray) * len(order))(*[chunk.array.children[k] for k in order])
+    schema.children, array.children = schemas, arrays
+    type = Type(chunk.type.format, tuple(chunk.type.children[k] for k in order))
+    return Chunk(schema, array, (schemas, arrays, chunk), type, chunk.rows)
+
+
+def fields_of(chunk: Chunk) -> List[Chunk]:
+    """Returns the fields of structs, cut to the rows of these."""
+    fields = []
+    _check_fields(chunk)
     for place, (_, type) in enumerate(chunk.type.children):
         inner = chunk.array.children[place].contents
         field = ArrowArray.from_buffer_copy(inner)

@@ -8,8 +8,8 @@ from typing import TYPE_CHECKING, Any, Iterator, Optional, Tuple
 import numpy as np
 import numpy.typing as npt
 
-from ._library import (COLUMN, LIBRARY, OUT_OF_RANGE, NotServed, TypesDiffer, declare, joined,
-                       refusal)
+from ._library import (COLUMN, LIBRARY, OUT_OF_RANGE, NotServed, OutOfRange, TypesDiffer, declare,
+                       joined, refusal)
 from ._numbers import NUMBER, Number, _column, extremes
 from ._rows import Unfit, build
 from ._sources import Table, read, typed
@@ -81,11 +81,32 @@ def _number(value: int) -> Number:
 
 
 class Unique:
-    """A state of the distinct values of columns whose rows are null or lie from `low` to `high`.
+    """A state that collects the distinct values of columns with a known range.
 
-    It takes a bit for each number of the range. States of one range are merged in any order, so
-    parts of a column can be read in other threads, processes or machines: a state can be pickled.
+    A state has one bit for each number from `low` to `high`. States of the same range and type can
+    be merged in any order, and a state can be pickled. So parts of a column can be read in
+    different threads, processes or machines.
 
+    Parameters
+    ----------
+    low, high : value
+        The least and the greatest value that the columns may have.
+    dtype : dtype of numpy or pandas
+        The type of the columns. `compare` says which types are taken.
+
+    Raises
+    ------
+    ValueError
+        If `low` is greater than `high`, or the range has 2**64 - 1 numbers or more.
+    TypesDiffer
+        If `low` or `high` is no value of the type.
+    NotServed
+        If the type is not taken.
+    MemoryError
+        If there is not enough memory for the bits.
+
+    Examples
+    --------
     >>> state = Unique(0, 9)
     >>> state.append([3, None, 1, 3])
     >>> state.values.tolist(), state.has_null, len(state)
@@ -98,11 +119,11 @@ class Unique:
     >>> state.append([10])
     Traceback (most recent call last):
         ...
-    dunkelva.OutOfRange: column, int64: a row lies outside of the range
+    dunkelva.OutOfRange: column, int64: a row lies outside of the range from 0 to 9
     """
 
     def __init__(self, low: object, high: object, dtype: object = np.int64) -> None:
-        """Makes a state that has seen nothing, of columns of a type."""
+        """Makes an empty state."""
         kind = _type_of(dtype)
         self._make(kind, _ends(low, high, kind))
 
@@ -127,14 +148,30 @@ class Unique:
         return named(self._ends[1], self._type.format)
 
     def _check(self, status: int, what: str) -> None:
+        if status == OUT_OF_RANGE:
+            raise OutOfRange(f"{what}, {self._type}: a row lies outside of the range from "
+                             f"{self.low} to {self.high}")
         if status:
             raise refusal(status, what, self._type)
 
     def append(self, column: object) -> None:
-        """Adds the rows of a column of the type of the state.
+        """Adds the rows of a column to the state.
 
-        Raises OutOfRange where a row lies outside of the range, and TypesDiffer where the column
-        has another type. The state is then as it was.
+        If the call fails, the state is unchanged.
+
+        Parameters
+        ----------
+        column : column
+            A column of the type of the state. Each row is null or from `low` to `high`.
+
+        Raises
+        ------
+        OutOfRange
+            If a row is outside of the range.
+        TypesDiffer
+            If the column has another type.
+        NotServed
+            If the argument is a table.
         """
         source = read(column, "column")
         if isinstance(source, Table):
@@ -163,9 +200,12 @@ class Unique:
         return made
 
     def merge(self, other: "Unique") -> None:
-        """Adds what another state of the same range and type has seen.
+        """Adds the values of another state, and its null if it has one.
 
-        Raises TypesDiffer where the two have another range or type.
+        Raises
+        ------
+        TypesDiffer
+            If the states differ in range or type.
         """
         if other is self:  # what the library writes must not overlap what it reads
             return
@@ -176,14 +216,14 @@ class Unique:
             raise refusal(status, "states", self._type)
 
     def __len__(self) -> int:
-        """Returns how many values were seen, null not counted."""
+        """Returns the number of distinct values. Null is not counted."""
         values, rows = ctypes.c_uint64(), ctypes.c_uint64()
         self._check(_count(self._state, ctypes.byref(values), ctypes.byref(rows)), "state")
         return int(values.value)
 
     @property
     def has_null(self) -> bool:
-        """Whether a null was seen."""
+        """True if a null was appended."""
         return bool(self._state.has_null)
 
     def _listed(self, spare: int) -> npt.NDArray[Any]:
@@ -197,11 +237,13 @@ class Unique:
 
     @property
     def values(self) -> npt.NDArray[Any]:
-        """The values that were seen, ascending, as an array of the state's type."""
+        """The distinct values in ascending order without null, as a numpy array."""
         return self._listed(0)
 
     def finish(self) -> Masked:
-        """Returns the values as a masked array, with a null last if one was seen."""
+        """Returns the distinct values in ascending order as a masked array, with null last if there
+        is one.
+        """
         null = self.has_null
         return _with_null(self._listed(int(null)), null)
 
@@ -330,12 +372,28 @@ def _sorted(column: Column) -> Tuple[npt.NDArray[Any], bool]:
 
 
 def unique(column: object) -> Masked:
-    """Returns the distinct rows of a column, ascending, as a masked array: a null comes last.
+    """Returns the distinct rows of a column.
 
-    Serves the columns that `compare` serves. A state has a bit for each number from the least row
-    to the greatest one. Where these are more than 64 times the rows and more than 524,288, numpy
-    sorts the rows instead, which is not proved.
+    If the rows have a wide range, numpy sorts them. This sorting is not proved. The range is wide
+    if it has more than 524,288 numbers, and more than 64 numbers for each row.
 
+    Parameters
+    ----------
+    column : column of numbers
+        A column of a type that `compare` takes.
+
+    Returns
+    -------
+    numpy.ma.MaskedArray
+        The distinct rows in ascending order. If a row is null, the last element is masked.
+
+    Raises
+    ------
+    NotServed
+        If the argument is a table or a column of another type.
+
+    Examples
+    --------
     >>> unique([3, None, 1, 3]).tolist()
     [1, 3, None]
     >>> unique(np.array(["2024-02-01", "2024-01-01"], "M8[D]")).tolist()
@@ -352,9 +410,9 @@ def unique(column: object) -> Masked:
 
 
 def n_unique(column: object) -> int:
-    """Returns the number of distinct rows of a column, among which null counts as one.
+    """Returns the number of distinct rows of a column. Null counts as one.
 
-    Serves what `unique` serves.
+    The parameter and the exceptions are those of `unique`.
 
     >>> n_unique([3, None, 1, 3])
     3

@@ -1,4 +1,4 @@
-"""Comparisons of data frames of Dask: partitions are compared where they are."""
+"""Comparisons of data frames of Dask. Each partition is compared on the worker that has it."""
 from __future__ import annotations
 
 import dataclasses
@@ -22,10 +22,30 @@ _PART, _ROW = "dunkelva: part", "dunkelva: row"
 
 
 def equal(left: Any, right: Any, *, floats_by_bits: bool = False) -> Any:
-    """Returns a Series of Dask with a truth value for each row, as `dunkelva.equal` does.
+    """Compares two data frames of Dask row by row, as `dunkelva.equal` does.
 
-    Both sides need partitions of the same lengths. The index is that of left.
+    Partitions are matched by position, so both sides need the same number of partitions, and
+    partitions of the same lengths.
 
+    Parameters
+    ----------
+    left, right : DataFrame of Dask
+        The two sides.
+    floats_by_bits : bool
+        As in `dunkelva.equal`.
+
+    Returns
+    -------
+    Series of Dask
+        For each row True if the two rows are equal. The index is that of `left`.
+
+    Raises
+    ------
+    TypesDiffer
+        If the numbers of partitions differ. `compute` raises the exceptions of `dunkelva.equal`.
+
+    Examples
+    --------
     >>> import dask.dataframe as dd, pandas as pd
     >>> old = dd.from_pandas(pd.DataFrame({"a": [1, 2, 3], "b": [5, 6, 7]}), npartitions=2)
     >>> new = dd.from_pandas(pd.DataFrame({"a": [1, 2, 4], "b": [5, 6, 7]}), npartitions=2)
@@ -47,12 +67,35 @@ def equal(left: Any, right: Any, *, floats_by_bits: bool = False) -> Any:
 def diff(left: Any, right: Any, on: Union[str, Sequence[str]], *,
          only: Optional[Iterable[str]] = None, ignore: Iterable[str] = (),
          floats_by_bits: bool = False, limit: Optional[int] = None) -> Diff:
-    """Compares two data frames whose rows belong together where they have the same key.
+    """Compares two data frames of Dask. Rows are matched by a key.
 
-    Dask shuffles both sides by the key, each pair of partitions is compared where it is, and what
-    differs comes back as one `Diff`, as `dunkelva.diff` returns it. Rows count through the whole
-    data frame from 0. Differences come in the order of the rows of left, then of right.
+    Dask shuffles both sides by the key, and each pair of partitions is compared on one worker. The
+    call computes at once.
 
+    Parameters
+    ----------
+    left, right : DataFrame of Dask
+        The two sides.
+    on : str or sequence of str
+        The columns of the key.
+    only, ignore, floats_by_bits, limit
+        As in `dunkelva.diff`.
+
+    Returns
+    -------
+    Diff
+        As from `dunkelva.diff`. Rows are numbered from 0 through the whole data frame. Differences
+        are in the order of the rows of `left`, and then of the added rows of `right`.
+
+    Raises
+    ------
+    ValueError
+        If `on` is empty.
+    KeyError, TypesDiffer, NotServed, BadArray
+        As in `dunkelva.diff`.
+
+    Examples
+    --------
     >>> import dask.dataframe as dd, pandas as pd
     >>> old = dd.from_pandas(pd.DataFrame({"id": [1, 2, 3], "n": [5, 6, 7]}), npartitions=2)
     >>> new = dd.from_pandas(pd.DataFrame({"id": [3, 1, 4], "n": [7, 8, 9]}), npartitions=2)
@@ -152,12 +195,29 @@ def _merged(found: Sequence[Tuple[Diff, Any, Any]], left_starts: List[int],
 
 
 def unique(series: Any, low: object, high: object) -> Unique:
-    """Returns a state of the distinct values of a Series of Dask, which lie from `low` to `high`.
+    """Collects the distinct values of a Series of Dask.
 
-    Each partition makes a state where it is, and states are merged by two until one is left.
+    Each worker makes a state of its partitions, and states are merged two by two.
 
-    Raises OutOfRange where a row lies outside of the range.
+    Parameters
+    ----------
+    series : Series of Dask
+        A column of a type that `dunkelva.compare` takes.
+    low, high : value
+        The least and the greatest value that the column may have.
 
+    Returns
+    -------
+    Unique
+        The state of the whole column.
+
+    Raises
+    ------
+    OutOfRange
+        If a row is outside of the range.
+
+    Examples
+    --------
     >>> import dask.dataframe as dd, pandas as pd
     >>> ages = dd.from_pandas(pd.Series([30, 41, 30, 7], dtype="Int64"), npartitions=2)
     >>> unique(ages, 0, 150).values.tolist()

@@ -29,9 +29,15 @@ def pytest_addoption(parser: Any) -> None:
 
 @pytest.fixture
 def dunkelva_snapshot(request: Any, tmp_path: pathlib.Path) -> Snapshot:
-    """Returns a function that compares a table with the snapshot of a name.
+    """Returns a function that compares a table with a stored file.
 
-    The name ends with .csv or .ndjson. `options` are passed to `dunkelva diff`.
+    The function takes these arguments, and fails the test with a report if table and file differ:
+
+    - `table`: the table.
+    - `name`: the name of the file in the folder `snapshots`. It ends with .csv or .ndjson.
+    - `key`: a column or a list of columns by which rows are matched. Without `key` rows are matched
+      by position.
+    - `options`: more options of `dunkelva diff`, such as `["--ignore", "time"]`.
     """
     def check(table: object, name: str, key: Union[str, Sequence[str]] = (),
               options: Sequence[str] = ()) -> None:
