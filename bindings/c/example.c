@@ -2,15 +2,16 @@
 #include <dunkelva.h>
 #include <stdio.h>
 
-/* Columns come from a library that has them, such as pyarrow or GDAL. These are made by hand, of
- * numbers of 32 bits and a validity, whose bit is 1 where a row is present. */
+/* Programs usually get columns from a library, such as pyarrow or GDAL. This program fills in the
+ * structs itself: numbers of 32 bits, and a validity bitmap, whose bit is 1 if a row is not null.
+ */
 static void release_type(struct ArrowSchema *type) { type->release = NULL; }
 static void release_array(struct ArrowArray *array) { array->release = NULL; }
 
 int main(void) {
   const int32_t old_rows[] = {10, 20, 30, 40};
   const int32_t new_rows[] = {10, 25, 99, 40};
-  const uint8_t present = 0x0B; /* the third row is null in both, whatever is stored there */
+  const uint8_t present = 0x0B; /* bits 1, 1, 0, 1: the third row of both columns is null */
   const void *old_buffers[] = {&present, old_rows};
   const void *new_buffers[] = {&present, new_rows};
   struct ArrowSchema type = {.format = "i", .release = release_type};
