@@ -1,6 +1,6 @@
 /* Calls on columns of numbers, and null rows of all columns. A column is passed to the kernels in
- * one piece, and its numbers are not copied. Only the null rows of dictionaries are found window by
- * window. */
+ * one piece, and its numbers are not copied if they are aligned. Only the null rows of dictionaries
+ * are found window by window. */
 #include "shim.h"
 
 #include <stdlib.h>

@@ -41,7 +41,8 @@ static void drop_copies(struct column *column) {
 }
 
 /* Sets `slice` to `count` elements of `size` bytes of a buffer, from element `first` on. If their
- * address is not a multiple of `size`, the slice gets a copy. Fails if the buffer is null. */
+ * address is not a multiple of `size`, the slice gets a copy. Fails if the buffer is null and
+ * `count` is not 0. */
 static int32_t lend(struct walk *walk, struct slice *slice, const void *buffer, int64_t first,
                     int64_t count, size_t size) {
   if (count == 0) {
