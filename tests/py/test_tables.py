@@ -141,7 +141,7 @@ def test_rows_of_structs() -> None:
     for rows in (2, 3):
         sides = [Exported(column(kind, side[:rows], 1))
                  for kind, side in zip(kinds, (left, right))]
-        found = dunkelva.diff(*sides)
+        found = dunkelva.diff(sides[0], sides[1])
         assert (found.same, found.changed, found.types) == (rows - 1, 1, {})
     frame, dicts = pd.DataFrame({"a": [1, 2]}), [{"a": 1}, {"a": 2}]
     dunkelva.assert_equal(frame, dicts)
