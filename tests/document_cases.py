@@ -322,20 +322,32 @@ FILES = (
     ([], b'{"a":1}\n{"a":2}\n', b'{"a":2}\n{"a":1}\n', 1,
      "~ row 1  a 1 -> 2\n~ row 2  a 2 -> 1\n2 changed, 0 removed, 0 added, 0 the same."),
     ([], b"\n", b"", 2,
-     "left.ndjson: line 1, column 1: not valid JSON: the line is empty: --skip-bad passes it over"),
+     "left.ndjson: line 1, column 1: not valid JSON: the line is empty: remove it, as grep . does"),
     ([], b"{}\n\n", b"{}\n", 2,
-     "left.ndjson: line 2, column 1: not valid JSON: the line is empty: --skip-bad passes it over"),
+     "left.ndjson: line 2, column 1: not valid JSON: the line is empty: remove it, as grep . does"),
     ([], b"{}\n", b"{}\n\n{}\n", 2,
-     "right.ndjson: line 2, column 1: not valid JSON: the line is empty: --skip-bad passes it "
-     "over"),
+     "right.ndjson: line 2, column 1: not valid JSON: the line is empty: remove it, as grep "
+     ". does"),
     ([], b"{}\n", b"{}\r\n\r\n", 2,
-     "right.ndjson: line 2, column 2: not valid JSON: the line is empty: --skip-bad passes it "
-     "over"),
+     "right.ndjson: line 2, column 2: not valid JSON: the line is empty: remove it, as grep "
+     ". does"),
     ([], b"{}\n", b"{}\n \t\r\n", 2,
-     "right.ndjson: line 2, column 4: not valid JSON: the line is empty: --skip-bad passes it "
-     "over"),
+     "right.ndjson: line 2, column 4: not valid JSON: the line is empty: remove it, as grep "
+     ". does"),
     ([], b"{}\n", b"{}\n\x0b\n", 2, "right.ndjson: line 2, column 1: not valid JSON"),
     # numbers that other programs write
+    ([], b'{"a":+1}\n', b"", 2,
+     "left.ndjson: line 1, column 6: not valid JSON: JSON has no + before a number"),
+    ([], b'{"a":[.5]}\n', b"", 2,
+     "left.ndjson: line 1, column 7: not valid JSON: JSON has a digit before the point, as 0.5"),
+    ([], b'{"a":-.5}\n', b"", 2,
+     "left.ndjson: line 1, column 6: not valid JSON: JSON has a digit before the point, as 0.5"),
+    ([], b'{"a":01}\n', b"", 2,
+     "left.ndjson: line 1, column 6: not valid JSON: JSON has no zero before other digits of a "
+     "number"),
+    ([], b'{"a":0x10}\n', b"", 2, "left.ndjson: line 1, column 6: not valid JSON"),
+    ([], b'{"a":"[]\\"{","b":' + 128 * b"[" + 128 * b"]" + b"}\n", b"", 2,
+     "left.ndjson: line 1, column 145: not valid JSON: documents nest at most 128 deep"),
     ([], b'{"a":NaN}\n', b"", 2, "left.ndjson: line 1, column 6: not valid JSON: JSON has no NaN"),
     ([], b"{}\n", b'{"a":1}\n{"\xc3\xa9":[1, Infinity]}\n', 2,
      "right.ndjson: line 2, column 10: not valid JSON: JSON has no Infinity"),
@@ -676,6 +688,19 @@ TROUBLES = (
         "", ".", "id.", "id..a", "id[", "id[ ]", "id[a]", "id[-1]", "id]", "[]id", "a,", "a,,b",
         '."id', '."id"a', '."\\ud800"') for option in ("--only", "--ignore")),
     (["good.ndjson"], "RIGHT"),
+    # a key path as other programs write it
+    (["--key", "$.order.id", "nested.ndjson", "nested.ndjson"],
+     'nested.ndjson: line 1: the key "$.order.id" is missing: did you mean "order.id"? The '
+     'document has "order"\n'),
+    (["--key", "/order/id", "nested.ndjson", "nested.ndjson"],
+     ': did you mean "order.id"? The document has "order"\n'),
+    (["--key", "order/ID", "nested.ndjson", "nested.ndjson"],
+     ': did you mean "order.id"? The document has "order"\n'),
+    (["--key", "order/number", "nested.ndjson", "nested.ndjson"],
+     'the key "order/number" is missing: paths are written as order.id or items[0].sku, and the '
+     'document has "order"\n'),
+    (["--input", "ndjson", "--key", "$.n", "-", "good.ndjson"],
+     '-: line 1: the key "$.n" is missing: paths are written as order.id or items[0].sku\n'),
     (["--key", "items[].sku", "good.ndjson", "good.ndjson"],
      '--key takes paths such as order.id or items[0].sku, not "items[].sku": a key path names one '
      'part, so no []\n'),
@@ -696,9 +721,33 @@ GOOD_WORDS = (["good.ndjson", "good.jsonl"], ["--input", "ndjson", "good.ndjson"
               ["--only", "id", "table.csv", "table.csv"],
               ["--key", "id", "--unique", "good.jsonl", "good.jsonl"],
               ["--key=.id", "good.jsonl", "good.jsonl"])
-# what is said of the paths of --only above that no document has
-WARNED = b'''dunkelva: warning: --only: no document has a part at "[].a"
+# what is said of the paths above that no document has, by the first word of a run
+WARNED = {"--only": b'''dunkelva: warning: --only: no document has a part at "[].a"
 dunkelva: warning: --only: no document has a part at "x[1]"
-'''
-NAMED = {"good.ndjson": b'{"id":1}\n', "good.jsonl": b'{"id":1.0}', "good.txt": b'{"id":1}\n',
+dunkelva: warning: --ignore: no document has a part at "[]"
+''', "--tolerance": b'''dunkelva: warning: --relative-tolerance: no document has a part at "[].a"
+'''}
+# words, and what is said beside the report, where a file is the standard input or all options warn
+WARNINGS = (
+    (["--only", "d.A,id", "good.ndjson", "-"],
+     b'dunkelva: warning: --only: no document of good.ndjson has a part at "d.A"; standard input '
+     b"was not looked at again\n"),
+    (["--only", "d.A", "-", "good.ndjson"],
+     b'dunkelva: warning: --only: no document of good.ndjson has a part at "d.A"; standard input '
+     b"was not looked at again\n"),
+    (["--ignore", "d.A", "--tolerance", "x=1", "good.ndjson", "-"], b""),
+    (["--only", "id", "good.ndjson", "-"], b""),
+    (["--key", "idd", "--no-key-is-null", "good.ndjson", "good.jsonl"],
+     b'dunkelva: warning: --key: no document has a part at "idd"\n'),
+    (["--key", "id", "--no-key-is-null", "good.ndjson", "good.jsonl"], b""),
+    (["--ignore", "item[].price,id", "--tolerance", "totl=1,id=1", "--relative-tolerance", "a=b=1",
+      "--only", "id,ID", "good.ndjson", "good.jsonl"],
+     b'''dunkelva: warning: --only: no document has a part at "ID"
+dunkelva: warning: --ignore: no document has a part at "item[].price"
+dunkelva: warning: --tolerance: no document has a part at "totl"
+dunkelva: warning: --relative-tolerance: no document has a part at "a=b"
+'''),
+)
+NAMED = {"nested.ndjson": b'{"order":{"id":1}}\n', "good.ndjson": b'{"id":1}\n',
+         "good.jsonl": b'{"id":1.0}', "good.txt": b'{"id":1}\n',
          "table.csv": b"id\n1\n", "table.ndjson": b"id\n1\n"}

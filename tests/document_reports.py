@@ -366,7 +366,10 @@ def members_hint(line, key):
         return ""
     more = f" and {len(names) - MOST_NAMES} more" if len(names) > MOST_NAMES else ""
     listed = f"has {', '.join(map(cut_name, names[:MOST_NAMES]))}{more}"
-    near = near_path(document, key.removeprefix(".").split("."))
+    dotted = key.removeprefix("$").removeprefix("/").replace("/", ".")
+    near = near_path(document, dotted.removeprefix(".").split("."))
+    if near is None and (key.startswith("$") or "/" in key):
+        return f": paths are written as order.id or items[0].sku, and the document {listed}"
     if near is None:
         return f": the document {listed}"
     return f": did you mean {table_reports.in_quotes('.'.join(near))}? The document {listed}"
@@ -387,6 +390,14 @@ STARTS = {
     "/*": "JSON has no comments",
 }
 
+# and beginnings of numbers of other formats
+NUMBERS = {
+    "-?0[0-9]": "JSON has no zero before other digits of a number",
+    r"\+[0-9.]": "JSON has no + before a number",
+    r"-?\.[0-9]": "JSON has a digit before the point, as 0.5",
+}
+MOST_DEEP = 128
+
 
 def slip_of(before, rest):
     """Returns the hint at a slip between two parts of a line, or an empty text."""
@@ -401,6 +412,13 @@ def slip_of(before, rest):
         return ": the string never ends"
     if not rest:
         return ": the line ends before the document does"
+    is_value = before.endswith((":", "[", ",")) and rest.startswith(("[", "{"))
+    bare = re.sub(r'"(?:\\.|[^"\\])*"', "", before)
+    if is_value and len(re.findall(r"[\[{]", bare)) - len(re.findall(r"[\]}]", bare)) == MOST_DEEP:
+        return ": documents nest at most 128 deep"
+    for number, hint in NUMBERS.items():
+        if re.match(number, rest):
+            return f": {hint}"
     return next((f": {hint}" for start, hint in STARTS.items() if rest.startswith(start)), "")
 
 
@@ -426,7 +444,7 @@ def hint_of(number, line, what):
     if number == 1 and bare == "{":
         return ": the file has documents of many lines: jq -c . makes a line of each"
     if not bare:
-        return ": the line is empty: --skip-bad passes it over"
+        return ": the line is empty: remove it, as grep . does"
     place = place_of(text, what)
     return slip_of(text[:place].rstrip(" \t\r"), text[place:])
 
@@ -849,10 +867,10 @@ def has_part(value, pattern):
     return bool(parts_here)
 
 
-def warnings(words, left, right):
-    """Returns the lines that a run over two files which ends well says of paths of --only at which
-    no document has a part. Nothing is said of files that are not UTF-8."""
-    content = left + b"\n" + right
+def warnings(sought, content, told="document"):
+    """Returns the lines that a run which ends well says of paths of options at which no document of
+    the files has a part. `sought` has options and paths. Nothing is said of files that are not
+    UTF-8."""
     try:
         content.decode()
     except UnicodeDecodeError:
@@ -860,14 +878,39 @@ def warnings(words, left, right):
     trees = [tree_of(line) for line in content.split(b"\n")]
     documents = [tree for tree, is_json in trees if is_json and isinstance(tree, Object)]
     lacking = [
-        word
-        for word in words
-        if documents and not any(has_part(it, steps_of(word)) for it in documents)
+        (option, table_reports.in_quotes(path))
+        for option, path in sought
+        if documents and not any(has_part(it, steps_of(path)) for it in documents)
     ]
     return b"".join(
-        f"dunkelva: warning: --only: no document has a part at {quoted}\n".encode()
-        for quoted in map(table_reports.in_quotes, lacking)
+        f"dunkelva: warning: {option}: no {told} has a part at {quoted}\n".encode()
+        for option, quoted in lacking
     )
+
+
+def paths_sought(options):
+    """Returns the options and paths for which a run over two files looks in documents."""
+    tolerances = options.get("tolerances", ())
+    return [
+        *(("--only", path) for path in options.get("only", ())),
+        *(("--ignore", path) for path in options.get("ignored", ())),
+        *(("--tolerance", path) for path, _, relative in tolerances if not relative),
+        *(("--relative-tolerance", path) for path, _, relative in tolerances if relative),
+        *(("--key", path) for path in options["keys"] if options.get("null_keys")),
+    ]
+
+
+def warned(pair):
+    """Returns the lines that a run over a pair which ends well says of paths that no document
+    has. Of a pair with a standard input only paths of --only are looked for, in the other file."""
+    contents, sought = (pair.left_bytes, pair.right_bytes), paths_sought(pair.options)
+    piped = pair.options["piped"]
+    if piped is None:
+        return warnings(sought, b"\n".join(contents))
+    of_only = [it for it in sought if it[0] == "--only"]
+    told = f"document of {pair.options['files'][1 - piped]}"
+    lines = warnings(of_only, contents[1 - piped], told)
+    return lines.replace(b"\n", b"; standard input was not looked at again\n")
 
 
 def is_right(ran, pair):
@@ -881,7 +924,4 @@ def is_right(ran, pair):
         printed = objects_of(ran.printed) if pair.options["json"] else ran.printed
     except (ValueError, RecursionError):
         return False
-    warned = b""
-    if pair.options["piped"] is None:
-        warned = warnings(pair.options.get("only", ()), pair.left_bytes, pair.right_bytes)
-    return ran.said == warned and printed == report
+    return ran.said == warned(pair) and printed == report

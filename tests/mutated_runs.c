@@ -254,9 +254,9 @@ static ran run(const pair *of, int first, int second, int is_piped) {
 
 /* ---- what is asked of runs */
 
-/* Says whether nothing is said but that no document has a part at a path of --only. */
+/* Says whether nothing is said but that no document has a part at a path of an option. */
 static int only_warns(const char *said) {
-    static const char *const warning = "dunkelva: warning: --only: no document has a part at ";
+    static const char *const warning = "dunkelva: warning: --";
     for (; *said; said = strchr(said, '\n') + 1)
         if (!begins(said, warning) || !strchr(said, '\n')) return 0;
     return 1;
@@ -285,9 +285,10 @@ static const char *fault_of(const ran *it) {
 
 /* Returns how long a fault is without its hint, which depends on whether a file can be read twice. */
 static size_t fault_length(const char *fault) {
-    static const char *const hints[] = {": the columns are ", ": for JSON lines give --input ndjson", ": did you mean ",
+    static const char *const hints[] = {": the columns are ", ": its columns are shown only ", ": did you mean ",
                                         ": is ", ": it looks like JSON lines", ": the file ", ": the line is empty",
-                                        ": JSON has no ", ": \"", ": the document has "};
+                                        ": JSON has ", ": \"", ": the document has ",
+                                        ": documents nest ", ": paths are written "};
     size_t length = strcspn(fault, "\n");
     for (size_t it = 0; it < sizeof hints / sizeof *hints; it++) {
         const char *hint = strstr(fault, hints[it]);

@@ -4,7 +4,6 @@
 mod columns;
 mod document_key;
 mod key_columns;
-mod only;
 mod outputs;
 mod progress;
 pub mod run;
@@ -12,3 +11,4 @@ mod schema;
 mod schema_changes;
 mod tasks;
 mod trouble;
+mod unfound;

@@ -1,10 +1,10 @@
 //! The commands of the program, and its exit status.
 
-use crate::only::warn_of_unknown;
 use crate::outputs::refuse_own_target;
 use crate::schema::show_schema;
 use crate::schema_changes::compare_schemas;
 use crate::tasks::{Task, compare_named};
+use crate::unfound::warn_of_unknown;
 use clap::ArgMatches;
 use diff_columns::choice::Choice;
 use diff_run::options::Options;
@@ -85,7 +85,7 @@ fn diff_tables(
 }
 
 /// Compares two files of documents with the given keys and rules. Writes the report to the target,
-/// warns about paths of `--only` that were not found, and returns the exit status.
+/// warns about paths in options that were not found, and returns the exit status.
 fn diff_by_paths(
     rt: &HostRuntime,
     matches: &ArgMatches<'_>,
@@ -109,7 +109,7 @@ fn diff_by_paths(
         colored: is_colored(rt, matches),
     };
     let status = compare_named(rt, left, right, Task::Documents(&options), target)?;
-    warn_of_unknown(rt, matches, &rules.only, left, right);
+    warn_of_unknown(rt, matches, keys, rules, left, right);
     Ok(status)
 }
 

@@ -31,6 +31,15 @@ fn file_of<'a>(names: (&'a str, &'a str), side: Side) -> &'a str {
     }
 }
 
+/// Returns the name of the left input if it can be read again, and else that of the right one.
+fn stored_of<'a>(rt: &HostRuntime, names: (&'a str, &'a str)) -> &'a str {
+    if open_again(rt, names.0).is_some() {
+        names.0
+    } else {
+        names.1
+    }
+}
+
 /// Returns the error for a record whose number of fields differs from that of the first record.
 fn other_length(line: u64, found: u64, expected: u64, csv: CsvOptions) -> Error {
     let first = if csv.has_header {
@@ -70,6 +79,9 @@ fn is_empty(rt: &HostRuntime, file: &str) -> bool {
     open_again(rt, file).is_some_and(|source| source.size() == Some(0))
 }
 
+/// The hint for an input that lacks a key column and can't be read again.
+const UNSEEN: &str = "its columns are shown only for a file, and JSON lines need --input ndjson";
+
 /// Returns the error for a file that lacks a key column. `key` is the index of the key. A hint says
 /// what is wrong with the file, or lists its columns.
 fn no_key(rt: &HostRuntime, file: &str, key: usize, options: &Options<'_>) -> Error {
@@ -78,8 +90,8 @@ fn no_key(rt: &HostRuntime, file: &str, key: usize, options: &Options<'_>) -> Er
     };
     let name = text_of(name);
     let error = trouble!("no column is named {}", quoted(name));
-    if file == "-" {
-        return error.hint("for JSON lines give --input ndjson");
+    if open_again(rt, file).is_none() {
+        return error.hint(UNSEEN);
     }
     if begins_object(rt, file) {
         return error.about(About::Records);
@@ -254,7 +266,7 @@ pub(crate) fn table_trouble(
         RunError::Columns { cause } => columns_trouble(rt, *cause, names, options),
         RunError::Choice {
             cause: ChoiceError::NoColumn { list, name },
-        } => no_column(rt, names.0, *list, *name, options),
+        } => no_column(rt, stored_of(rt, names), *list, *name, options),
         other => trouble!("{other}"),
     }
 }

@@ -157,7 +157,7 @@ fn line_hint(rt: &HostRuntime, file: &str, line: u64, column: u64) -> Option<&'s
         return Some(hint);
     }
     if text.trim_matches(BLANKS).is_empty() {
-        return Some("the line is empty: --skip-bad passes it over");
+        return Some("the line is empty: remove it, as grep . does");
     }
     slip_at(rt.alloc(), text, column)
 }

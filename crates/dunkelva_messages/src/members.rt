@@ -91,8 +91,31 @@ fn path_near(alloc: Global, document: &Value<'_>, path: &str) -> Option<String> 
     Some(near)
 }
 
+/// The hint for a path in another notation.
+const NOTATION: &str = "paths are written as order.id or items[0].sku";
+
+/// Returns whether a path seems to be written in another notation, such as `$.order.id` or
+/// `/order/id`.
+fn is_foreign(path: &str) -> bool {
+    path.starts_with('$') || path.contains('/')
+}
+
+/// Returns a path in another notation with dots between its names, as `order.id` for `$.order.id`
+/// and `/order/id`. Returns other paths unchanged. Returns `None` if an allocation fails.
+fn in_dots(alloc: Global, path: &str) -> Option<String> {
+    let path = path.strip_prefix('$').unwrap_or(path);
+    let path = path.strip_prefix('/').unwrap_or(path);
+    let mut dotted = String::new(alloc);
+    for (i, name) in path.split('/').enumerate() {
+        dotted.push_str(if i == 0 { "" } else { "." }).ok()?;
+        dotted.push_str(name).ok()?;
+    }
+    Some(dotted)
+}
+
 /// Returns a hint about a path that leads to no part of a document: the names of its members, and a
-/// question if a similar path exists. Returns `None` if the document is not an object with members.
+/// question if a similar path exists. Otherwise the hint says how paths are written, if `path` is
+/// in another notation. Returns `None` if the document is not an object with members.
 fn hint_in(alloc: Global, document: &Value<'_>, path: &str) -> Option<String> {
     let Value::Object(members) = document else {
         return None;
@@ -101,10 +124,13 @@ fn hint_in(alloc: Global, document: &Value<'_>, path: &str) -> Option<String> {
         return None;
     }
     let list = list_of(alloc, members).ok()?;
-    match path_near(alloc, document, path) {
+    match path_near(alloc, document, &in_dots(alloc, path)?) {
         Some(near) => {
             let near = quoted(&near);
             format!(in alloc; "did you mean {near}? The document has {list}").ok()
+        }
+        None if is_foreign(path) => {
+            format!(in alloc; "{NOTATION}, and the document has {list}").ok()
         }
         None => format!(in alloc; "the document has {list}").ok(),
     }
@@ -112,12 +138,22 @@ fn hint_in(alloc: Global, document: &Value<'_>, path: &str) -> Option<String> {
 
 /// Returns a hint about a path that leads to no part of the document in a line of a regular file.
 /// The first line is 1. Returns `None` if the line can't be read again, or there is no hint.
-pub fn members_hint(rt: &HostRuntime, file: &str, line: u64, path: &str) -> Option<String> {
+fn hint_at(rt: &HostRuntime, file: &str, line: u64, path: &str) -> Option<String> {
     let bytes = line_bytes(rt, file, line)?;
     let text = str::from_utf8(&bytes).ok()?;
     let mut scratch = Scratch::new(rt.alloc());
     match &Value::parse(rt.alloc(), text, &mut scratch) {
         Ok(document) => hint_in(rt.alloc(), document, path),
         Err(_) => None,
+    }
+}
+
+/// Returns a hint about a path that leads to no part of the document in a line of a file. The first
+/// line is 1. If the line can't be read again, or the document has no members, the hint only says
+/// how paths are written, if `path` is in another notation. Returns `None` if there is no hint.
+pub fn members_hint(rt: &HostRuntime, file: &str, line: u64, path: &str) -> Option<String> {
+    match hint_at(rt, file, line, path) {
+        None if is_foreign(path) => String::from_str(rt.alloc(), NOTATION).ok(),
+        hint => hint,
     }
 }

@@ -30,6 +30,61 @@ fn start_hint(rest: &str) -> Option<&'static str> {
     None
 }
 
+/// Returns whether a text begins with a decimal digit.
+fn begins_with_digit(text: &str) -> bool {
+    text.starts_with(|c: char| c.is_ascii_digit())
+}
+
+/// Returns the hint for a text that begins with a number of another format, or `None` if it does
+/// not.
+fn number_hint(rest: &str) -> Option<&'static str> {
+    if let Some(number) = rest.strip_prefix('+') {
+        let is_number = begins_with_digit(number) || number.starts_with('.');
+        return is_number.then_some("JSON has no + before a number");
+    }
+    let number = rest.strip_prefix('-').unwrap_or(rest);
+    if begins_with_digit(number.strip_prefix('.')?) {
+        return Some("JSON has a digit before the point, as 0.5");
+    }
+    None
+}
+
+/// Returns whether a text begins with a number that has a zero before its other digits, such as
+/// `01`.
+fn has_leading_zero(rest: &str) -> bool {
+    let number = rest.strip_prefix('-').unwrap_or(rest);
+    number.strip_prefix('0').is_some_and(begins_with_digit)
+}
+
+/// The greatest depth to which arrays and objects nest in a document.
+const MOST_DEEP: usize = 128;
+
+/// Returns the number of arrays and objects that are open at the end of `before`, which is the
+/// beginning of a document.
+fn depth_of(before: &str) -> usize {
+    let mut depth = 0_usize;
+    let mut is_inside = false;
+    let mut is_escaped = false;
+    for byte in before.bytes() {
+        match byte {
+            b'"' if !is_escaped => is_inside = !is_inside,
+            b'{' | b'[' if !is_inside => depth = depth.saturating_add(1),
+            b'}' | b']' if !is_inside => depth = depth.saturating_sub(1),
+            _ => {}
+        }
+        is_escaped = byte == b'\\' && !is_escaped;
+    }
+    depth
+}
+
+/// Returns whether `rest` begins with an array or object that nests deeper than documents may, and
+/// stands where a document may have a value. `before` is the beginning of the document.
+fn nests_too_deep(before: &str, rest: &str) -> bool {
+    let is_value = before.ends_with(':') || before.ends_with('[') || before.ends_with(',');
+    let is_nested = rest.starts_with('[') || rest.starts_with('{');
+    is_value && is_nested && depth_of(before) == MOST_DEEP
+}
+
 /// Returns whether a text begins with a member name that has no quotes. `before` is the text before
 /// it in the line.
 fn lacks_quotes(before: &str, rest: &str) -> bool {
@@ -84,7 +139,13 @@ fn slip_between(alloc: Global, before: &str, rest: &str) -> Option<&'static str>
     if rest.is_empty() {
         return Some("the line ends before the document does");
     }
-    start_hint(rest)
+    if nests_too_deep(before, rest) {
+        return Some("documents nest at most 128 deep");
+    }
+    if has_leading_zero(rest) {
+        return Some("JSON has no zero before other digits of a number");
+    }
+    number_hint(rest).or(start_hint(rest))
 }
 
 /// Returns a hint about a mistake at a column of a line that is not a document, or `None` if none

@@ -13,9 +13,10 @@ const NOTES: &str = "\
 Files whose names end in .ndjson or .jsonl have a JSON object in each line, and
 others are CSV; files named .json need --input. For JSON, --key takes paths such
 as order.id or items[0].sku. --only, --ignore and the two tolerances take paths
-in which [] is every item, as items[].price. --common, --numbers, --text,
---null, --delimiter, --no-header and --sorted are for CSV alone;
---missing-is-null, --no-key-is-null and --skip-bad are for JSON alone.
+in which [] is every item, as items[].price; a path there that no document has
+is only a warning. --common, --numbers, --text, --null, --delimiter, --no-header
+and --sorted are for CSV alone; --missing-is-null, --no-key-is-null and
+--skip-bad are for JSON alone.
 
 The status is 0 where the files are the same, 1 where they differ, and 2 where
 they can't be compared.";

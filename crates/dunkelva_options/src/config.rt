@@ -288,8 +288,20 @@ fn member_text(alloc: Global, table: &Table, name: &str) -> Result<Option<String
     }
 }
 
+/// Fails if one of the arguments `words`, which are those of a config file, excludes another one.
+fn refuse_excluded(words: &[String]) -> Result<()> {
+    for option in options() {
+        for other in option.excludes {
+            if is_given(words, option.id) && is_given(words, *other) {
+                return Err(trouble!("{} can't be used with {other}", option.id));
+            }
+        }
+    }
+    Ok(())
+}
+
 /// Returns the settings in a table. Options that the command line `given` overrides are left out.
-/// Fails if a name is unknown, or a value has a wrong type.
+/// Fails if a name is unknown, a value has a wrong type, or two options exclude each other.
 fn config_of(alloc: Global, table: &Table, given: &[String]) -> Result<Config> {
     refuse_unknown(table)?;
     let mut words = Vec::new(alloc);
@@ -300,6 +312,7 @@ fn config_of(alloc: Global, table: &Table, given: &[String]) -> Result<Config> {
             }
         }
     }
+    refuse_excluded(&words)?;
     let left = member_text(alloc, table, "left")?;
     let right = member_text(alloc, table, "right")?;
     Ok(Config { words, left, right })
@@ -330,6 +343,13 @@ fn lacks_quotes(line: &str) -> bool {
     is_word && !["true", "false", "inf", "nan"].contains(&word)
 }
 
+/// Returns whether a line seems to be of YAML or JSON, such as `key: id` or `{"key": "id"}`.
+fn is_other_format(line: &str) -> bool {
+    let line = line.trim_start();
+    let is_begun = line.starts_with('{') || line.starts_with("---") || line.starts_with("- ");
+    is_begun || line.contains(':') && !line.contains('=')
+}
+
 /// Returns the error for a config file that is not TOML, with the number of the line.
 fn no_table(text: &str, error: &toml::de::Error) -> Error {
     let Some(span) = error.span() else {
@@ -341,6 +361,9 @@ fn no_table(text: &str, error: &toml::de::Error) -> Error {
         return trouble!("line {number}: put text in quotes, as in key = \"id\"").hint(
             error.message(),
         );
+    }
+    if line.is_some_and(is_other_format) {
+        return trouble!("line {number}: options are TOML, as key = \"id\"").hint(error.message());
     }
     trouble!("line {number}: {}", error.message())
 }

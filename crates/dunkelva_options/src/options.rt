@@ -174,7 +174,7 @@ static OPTIONS: [CliOption; 27] = [
         takes: Takes::Text,
         value: "WORD",
         goes_with: GoesWith::Tables,
-        help: "A field that is WORD is null; diff still compares its text",
+        help: "A field that is WORD, one word, is null; diff still compares its text",
         ..SWITCH
     },
     CliOption {
@@ -243,7 +243,7 @@ static OPTIONS: [CliOption; 27] = [
         takes: Takes::Word(&["text", "json"]),
         value: "FORM",
         default: Some("text"),
-        help: "Print lines to read, or a JSON object in each line",
+        help: "Print lines to read, or a JSON object in each line; both stop at 20 without --limit",
         ..SWITCH
     },
     CliOption {

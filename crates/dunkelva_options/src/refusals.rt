@@ -41,34 +41,100 @@ fn command_advice(rt: &HostRuntime, words: &[&str]) -> Option<&'static str> {
     Some("to compare two files: dunkelva diff LEFT RIGHT")
 }
 
+/// The advice for an option of other programs that prints nothing.
+const STATUS_ALONE: &str = "for the status alone send what is printed to /dev/null";
+
+/// The advice for an option of other programs that names a file for the report.
+const OUTPUT: &str = "the report is printed: write > FILE";
+
 /// Options of other programs, each with advice on what to give instead.
-const OTHERS: [(&str, &str); 4] = [
+const OTHERS: [(&str, &str); 8] = [
     ("--json", "for JSON give --format json"),
+    ("--quiet", STATUS_ALONE),
+    ("-q", STATUS_ALONE),
+    ("--sep", "for the delimiter give --delimiter"),
+    ("--separator", "for the delimiter give --delimiter"),
     (
-        "--quiet",
-        "for the status alone send what is printed to /dev/null",
+        "--encoding",
+        "files are compared as bytes: convert with iconv",
     ),
-    (
-        "-q",
-        "for the status alone send what is printed to /dev/null",
-    ),
+    ("--output", OUTPUT),
+    ("-o", OUTPUT),
+];
+
+/// Options of other programs that `dunkelva schema` has no option for, each with advice on what to
+/// give `dunkelva diff` instead.
+const OTHERS_OF_DIFF: [(&str, &str); 9] = [
+    ("--id", "for the key give --key"),
+    ("--on", "for the key give --key"),
+    ("--columns", "for the columns to compare give --only"),
+    ("--fields", "for the columns to compare give --only"),
+    ("--exclude", "for columns to leave out give --ignore"),
+    ("--skip", "for columns to leave out give --ignore"),
+    ("--epsilon", "for a tolerance give --tolerance"),
+    ("--eps", "for a tolerance give --tolerance"),
     (
         "--rename",
         "columns are not renamed: the two files have to have the same names",
     ),
 ];
 
-/// Returns advice for the first argument that is an option of other programs, or `None` if there is
-/// none.
-fn other_advice(words: &[&str]) -> Option<&'static str> {
+/// Returns an argument without the equals sign and the value after it, if it has them.
+fn option_in(word: &str) -> &str {
+    match word.split_once('=') {
+        Some((option, _)) => option,
+        None => word,
+    }
+}
+
+/// Returns the advice for the first argument that `others` has, or `None` if there is none.
+fn advice_in(words: &[&str], others: &[(&str, &'static str)]) -> Option<&'static str> {
     for word in words {
-        for (option, advice) in OTHERS {
-            if *word == option {
-                return Some(advice);
+        for (option, advice) in others {
+            if option_in(*word) == *option {
+                return Some(*advice);
             }
         }
     }
     None
+}
+
+/// Returns the name of an option that an argument has after a single hyphen, as `key` in `-key`, or
+/// `None` if there is none.
+fn after_one_hyphen(word: &str) -> Option<&'static str> {
+    let name = option_in(word.strip_prefix('-')?);
+    for option in options() {
+        if option.id == name {
+            return Some(option.id);
+        }
+    }
+    None
+}
+
+/// Returns advice for the first argument that is an option with a single hyphen, or `None` if there
+/// is none or an allocation fails.
+fn hyphen_advice(alloc: Global, words: &[&str]) -> Option<String> {
+    for word in words {
+        if let Some(id) = after_one_hyphen(*word) {
+            return format!(in alloc; "write two hyphens: --{id}").ok();
+        }
+    }
+    None
+}
+
+/// Returns advice for the first argument that is an option of other programs, or has a single
+/// hyphen for two. Returns `None` if there is none, or an allocation fails.
+fn other_advice(alloc: Global, words: &[&str]) -> Option<String> {
+    if let Some(advice) = advice_in(words, &OTHERS) {
+        return String::from_str(alloc, advice).ok();
+    }
+    if words.get(1) == Some(&"schema") {
+        return None;
+    }
+    match advice_in(words, &OTHERS_OF_DIFF) {
+        Some(advice) => String::from_str(alloc, advice).ok(),
+        None => hyphen_advice(alloc, words),
+    }
 }
 
 /// Returns advice if the arguments give an option without another one that it needs: the text `--a
@@ -90,7 +156,7 @@ pub fn advice_for(rt: &HostRuntime, words: &[&str], kind: ErrorKind) -> Option<S
     let advice = match kind {
         ErrorKind::InvalidSubcommand => command_advice(rt, words)?,
         ErrorKind::InvalidValue => format_advice(words)?,
-        ErrorKind::UnknownArgument => other_advice(words)?,
+        ErrorKind::UnknownArgument => return other_advice(rt.alloc(), words),
         ErrorKind::MissingRequiredArgument => return needs_advice(rt.alloc(), words),
         _ => return None,
     };

@@ -1,7 +1,7 @@
 //! The command line of `dunkelva schema`.
 
 use crate::command::with_option;
-use crate::options::options;
+use crate::options::{CliOption, options};
 use clap::{Arg, Command};
 use std::alloc::{AllocError, Global};
 
@@ -29,6 +29,18 @@ const SHARED: [&str; 6] = [
     "format",
 ];
 
+/// Returns an option as `dunkelva schema` has it. The help of some options is only for `dunkelva
+/// diff`.
+fn of_schema(option: CliOption) -> CliOption {
+    let help = match option.id {
+        "input" => "The format of the file; without it its name tells it",
+        "null" => "A field that is WORD, one word, is null",
+        "format" => "Print lines to read, or a JSON object in each line",
+        _ => option.help,
+    };
+    CliOption { help, ..option }
+}
+
 /// Creates the positional argument that names the file.
 fn file_arg<'a>(alloc: Global) -> Arg<'a> {
     Arg::new(alloc, "file")
@@ -45,7 +57,7 @@ pub(crate) fn schema_command<'a>(alloc: Global) -> Result<Command<'a>, AllocErro
         .arg(file_arg(alloc))?;
     for option in options() {
         if SHARED.contains(&option.id) {
-            command = with_option(alloc, command, *option)?;
+            command = with_option(alloc, command, of_schema(*option))?;
         }
     }
     Ok(command)
