@@ -1,7 +1,7 @@
 //! Warnings about paths in options at which no document has a part.
 //!
 //! If `--only` has no other paths, no difference is found, whatever the documents are. A misspelt
-//! path of `--ignore` or a tolerance has no effect, and one of the key with `--no-key-is-null` gives
+//! path of `--ignore` or a tolerance has no effect. One of the key, with `--no-key-is-null`, gives
 //! all documents the key null. Such paths are therefore reported on standard error after the
 //! comparison. For this the files are read again.
 
