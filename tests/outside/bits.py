@@ -282,7 +282,7 @@ CALLS = {
     "steps": saturated,
     "default_steps": saturated,
     "compare": lambda w: compare(w, lambda passes, kind: passes(w.number(), w.number())),
-    "packs_by_bit": lambda w: compare(w, lambda passes, kind: TYPES[kind][1] > 64),
+    "packs_in_registers": lambda w: compare(w, lambda passes, kind: TYPES[kind][1] > 64),
     "compare_pairs": lambda w: compare(
         w, lambda passes, kind: each(passes, w.numbers(), w.numbers())
     ),

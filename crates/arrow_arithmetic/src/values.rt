@@ -18,7 +18,7 @@ use polars_compute_arithmetic::arithmetic::pl_num::PlNumArithmetic;
 
 // The results of an operation on each pair of numbers of two slices.
 #[derive(Drop)]
-struct Pairs<'a, T, O> {
+struct PairedValues<'a, T, O> {
     left: &'a [T],
     right: &'a [T],
     operation: O,
@@ -32,7 +32,7 @@ struct Each<'a, T, F> {
     function: F,
 }
 
-impl<'a, T: NativeType, O: NumberOperation<T>> Computed<T> for Pairs<'a, T, O> {
+impl<'a, T: NativeType, O: NumberOperation<T>> Computed<T> for PairedValues<'a, T, O> {
     ghost use Rattle.std.specs.Simd.Lanes.{zip2};
     ghost use Rattle.num_traits.specs.Laws.{bit_len};
     ghost use Rattle.polars_arrays_numbers.specs.Wrapping.{wrapped};
@@ -88,7 +88,7 @@ fn write_operation<T: NativeType, O: NumberOperation<T> + Drop>(
         (or_zero (O.meaning (T.value x) (T.value y)))) left.now right.now }
 {
     write(
-        &Pairs {
+        &PairedValues {
             left,
             right,
             operation,

@@ -16,7 +16,7 @@ use polars_arrays_bits::bit_mask::BitMask;
 use polars_arrays_bits::bitmap::Bitmap;
 use polars_arrays_bits::error::ComputeError;
 use polars_arrays_bits::mutable_bitmap::MutableBitmap;
-use polars_arrays_bits::slices::{Pairs, compare_constant, compare_pairs};
+use polars_arrays_bits::slices::{SlicePairs, compare_constant, compare_pairs};
 use polars_arrays_numbers::comparison::{
     Equal, Greater, GreaterOrEqual, Less, LessOrEqual, Unequal,
 };
@@ -54,7 +54,7 @@ fn join<T: NativeType, E: RowComparison<T>>(
         (number_slots T.value right.now.values))) IsMemory }
     ensures count { IfOk result (λ bits. length bits ≡ length left.now.values) }
 {
-    let pairs = Pairs {
+    let pairs = SlicePairs {
         comparison,
         left: left.values(),
         right: right.values(),

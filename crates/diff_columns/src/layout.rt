@@ -9,7 +9,7 @@ use crate::alone::columns_alone;
 use crate::choice::Choice;
 use crate::error::{ColumnError, Side};
 use crate::names::{column_repeated, key_missing};
-use crate::pairs::{Pairs, compared_pairs};
+use crate::pairs::{ColumnPairs, compared_pairs};
 use crate::places::key_places;
 use polars_arrays_flat::byte_rows::ByteRows;
 use std::alloc::{AllocError, Global};
@@ -71,7 +71,7 @@ fn layout_of<L: ByteRows, R: ByteRows>(
         (names_of choice.now.keys.now) }
     ensures { IfOk result (IsLayout (L.strings left.now) (R.strings right.now) choice.now) }
 {
-    let Pairs {
+    let ColumnPairs {
         left_columns,
         right_columns,
     } = compared_pairs(alloc, left, right, choice)?;

@@ -11,7 +11,7 @@ use std::alloc::{AllocError, Global};
 
 /// The pairs of columns that are compared: `left_columns[k]` with `right_columns[k]`.
 #[derive(Drop)]
-pub(crate) struct Pairs {
+pub(crate) struct ColumnPairs {
     pub(crate) left_columns: Vec<usize>,
     pub(crate) right_columns: Vec<usize>,
 }
@@ -43,7 +43,7 @@ pub(crate) fn compared_pairs<L: ByteRows, R: ByteRows>(
     left: &L,
     right: &R,
     choice: &Choice<'_>,
-) -> Result<Pairs, AllocError>
+) -> Result<ColumnPairs, AllocError>
     ensures { IfOk result
         (λ pairs. ArePairs choice.now (L.strings left.now) (R.strings right.now)
         (length (L.strings left.now)) pairs.left_columns.items pairs.right_columns.items) }
@@ -56,7 +56,7 @@ pub(crate) fn compared_pairs<L: ByteRows, R: ByteRows>(
             right_columns.push(j)?;
         }
     }
-    Ok(Pairs {
+    Ok(ColumnPairs {
         left_columns,
         right_columns,
     })

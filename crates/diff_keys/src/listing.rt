@@ -8,14 +8,14 @@ use std::alloc::{AllocError, Global};
 
 /// Pairs of partners: `left_rows[k]` and `right_rows[k]`.
 #[derive(Drop)]
-pub(crate) struct Pairs {
+pub(crate) struct RowPairs {
     pub(crate) left_rows: Vec<u32>,
     pub(crate) right_rows: Vec<u32>,
 }
 
 /// Returns the pairs of partners in the order of the left rows. `found[i]` is the partner of left
 /// row `i`.
-pub(crate) fn pairs_found(alloc: Global, found: &[Option<u32>]) -> Result<Pairs, AllocError>
+pub(crate) fn pairs_found(alloc: Global, found: &[Option<u32>]) -> Result<RowPairs, AllocError>
     requires { length found.now ≤ 2 ^ 32 }
     ensures { IfOk result
         (λ pairs. ListsFound found.now (length found.now) pairs.left_rows.items
@@ -29,7 +29,7 @@ pub(crate) fn pairs_found(alloc: Global, found: &[Option<u32>]) -> Result<Pairs,
             right_rows.push(j)?;
         }
     }
-    Ok(Pairs {
+    Ok(RowPairs {
         left_rows,
         right_rows,
     })

@@ -5,7 +5,7 @@ ghost use Rattle.diff_keys.specs.Errors.{AreFew, IsMatchFault};
 ghost use Rattle.diff_keys.specs.Matching.{IsMatching};
 
 use crate::error::MatchError;
-use crate::listing::{Pairs, other_rows, pairs_found, rows_alone};
+use crate::listing::{RowPairs, other_rows, pairs_found, rows_alone};
 use crate::partners::partners;
 use polars_arrays_flat::byte_rows::ByteRows;
 use std::alloc::{AllocError, Global};
@@ -42,7 +42,7 @@ fn match_few<L: ByteRows, R: ByteRows>(
     let pairs = pairs_found(alloc, &found)?;
     let removed = rows_alone(alloc, &found)?;
     let added = other_rows(alloc, right.count(), &pairs.right_rows)?;
-    let Pairs {
+    let RowPairs {
         left_rows,
         right_rows,
     } = pairs;

@@ -5,7 +5,7 @@ ghost use Rattle.diff_numbers.specs.Rows.{IsComparableTable};
 ghost use Rattle.diff_run.specs.Comparables.{AreBothBy, AreComparables, AreExact, AreTolerant};
 ghost use Rattle.diff_run.specs.Comparables.{HasNamedColumns, IsComparedFault, IsNumberFault};
 ghost use Rattle.diff_run.specs.Comparables.{IsTableFault, IsToleranceFault, NamesWideNumber};
-ghost use Rattle.diff_run.specs.Comparables.{counted};
+ghost use Rattle.diff_run.specs.Comparables.{numeric_columns};
 ghost use Rattle.polars_arrays_bytes.specs.OffsetStrings.{offset_strings};
 
 use crate::error::RunError;
@@ -69,14 +69,14 @@ fn table_by(
 
 /// Returns for each column whether its numbers are compared by value. Without `--numbers` no column
 /// is.
-fn counted(
+fn find_numeric_columns(
     alloc: Global,
     names: &BinaryArray<i64>,
     options: &Options<'_>,
 ) -> Result<Vec<bool>, AllocError>
     ensures columns { IfOk result
         (λ numeric. numeric.items
-        ≡ counted options.now.numbers (offset_strings (λ x. x) names.now)) }
+        ≡ numeric_columns options.now.numbers (offset_strings (λ x. x) names.now)) }
     ensures one_each { IfOk result
         (λ numeric. length numeric.items ≡ length (offset_strings (λ x. x) names.now)) }
 {
@@ -93,7 +93,7 @@ fn counted(
 }
 
 /// Returns the inputs as tables in which each number of a numeric column has its normal form (see
-/// `counted`). Tolerances are not applied.
+/// `numeric_columns`). Tolerances are not applied.
 fn tables_by(
     alloc: Global,
     names: &BinaryArray<i64>,
@@ -103,11 +103,11 @@ fn tables_by(
     requires left { HasNamedColumns (offset_strings (λ x. x) names.now) both.now.left }
     requires right { HasNamedColumns (offset_strings (λ x. x) names.now) both.now.right }
     ensures { MatchResult result
-        (AreBothBy (counted options.now.numbers (offset_strings (λ x. x) names.now)) both.now)
-        (IsNumberFault (counted options.now.numbers (offset_strings (λ x. x) names.now))
+        (AreBothBy (numeric_columns options.now.numbers (offset_strings (λ x. x) names.now)) both.now)
+        (IsNumberFault (numeric_columns options.now.numbers (offset_strings (λ x. x) names.now))
         (offset_strings (λ x. x) names.now) both.now) }
 {
-    let numeric = counted(alloc, names, options)?;
+    let numeric = find_numeric_columns(alloc, names, options)?;
     let left = table_by(alloc, names, &numeric, &both.left, Side::Left)?;
     let right = table_by(alloc, names, &numeric, &both.right, Side::Right)?;
     Ok(Comparables { left, right })

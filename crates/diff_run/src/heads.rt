@@ -93,8 +93,9 @@ fn matched<L: Read + Drop, R: Read + Drop>(
 
 /// Reads the names of the columns of two inputs, and matches the columns by name.
 ///
-/// Fails with `Columns` if the columns can't be matched, with `Choice` if the options name an
-/// unknown column or leave nothing to compare, and with `Memory` if an allocation fails.
+/// Fails with `Columns` if an input has a name twice or lacks a key column, with `Choice` if the
+/// options name any other unknown column or leave nothing to compare, and with `Memory` if an
+/// allocation fails.
 pub fn heads_of<L: Read + Drop, R: Read + Drop>(
     alloc: Global,
     left: &Source<L>,

@@ -109,7 +109,7 @@ impl<'a> SortedReport<'a> {
     }
 
     /// Checks that each count by column can be increased without overflow.
-    fn test_counts(&self) -> Result<(), AllocError>
+    fn check_counts(&self) -> Result<(), AllocError>
         ensures { OnOk result (All (λ n. n < 2 ^ 64 - 1) self.now.counts.items) }
     {
         let have_room = are_below(&self.counts, usize::MAX);
@@ -132,7 +132,7 @@ impl<'a> Sink for SortedReport<'a> {
     fn pair(&mut self, left: &Row<'_>, right: &Row<'_>) -> Result<(), AllocError> {
         self.test_row(left)?;
         self.test_row(right)?;
-        self.test_counts()?;
+        self.check_counts()?;
         let is_changed = count_changes(left, right, &mut self.counts);
         if !is_changed {
             self.same = one_more(self.same)?;

@@ -79,7 +79,7 @@ fn lent<'a>(frame: &'a Frame, options: &Options<'_>) -> frame::Frame<'a>
 }
 
 /// Merges the rows of two sorted inputs into a report, and returns it.
-fn told_of<'f, L: Read + Drop, R: Read + Drop>(
+fn merged_report<'f, L: Read + Drop, R: Read + Drop>(
     alloc: Global,
     left: Source<L>,
     right: Source<R>,
@@ -204,7 +204,7 @@ fn report_on<L: Read + Drop, R: Read + Drop>(
     let right = opened(alloc, right.reader, options, Side::Right)?;
     let heads = heads_of(alloc, &left, &right, options)?;
     let frame = frame_of(alloc, &heads, files, options)?;
-    let told = told_of(alloc, left, right, &heads, lent(&frame, options), options)?;
+    let told = merged_report(alloc, left, right, &heads, lent(&frame, options), options)?;
     let report = report_of(alloc, &heads, files, &told, options)?;
     Ok(report)
 }

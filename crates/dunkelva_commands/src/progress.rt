@@ -114,12 +114,12 @@ impl Read for Counted<'_> {
 
 /// A writer that erases the progress line before it writes.
 #[derive(Drop)]
-pub(crate) struct Cleared<'a, W> {
+pub(crate) struct ErasingWriter<'a, W> {
     pub(crate) writer: W,
     pub(crate) progress: &'a Progress<'a>,
 }
 
-impl<W: Write> Write for Cleared<'_, W> {
+impl<W: Write> Write for ErasingWriter<'_, W> {
     ghost contents = { λ cleared. W.contents cleared.writer };
 
     fn write(&mut self, buf: &[u8]) -> io::Result<usize> {

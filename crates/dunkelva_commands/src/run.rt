@@ -21,7 +21,7 @@ use dunkelva_settings::keys::{Keys, keys_of};
 use dunkelva_settings::kinds::{
     hold_documents, refuse_document_options, refuse_table_options, refuse_two_formats,
 };
-use dunkelva_settings::parts::{part_of, part_of_rows, refuse_unsorted};
+use dunkelva_settings::parts::{part_of_rows, refuse_unsorted, selected_part};
 use dunkelva_settings::rules::rules_of;
 use dunkelva_settings::tolerances::tolerances_of;
 use dunkelva_settings::words::{
@@ -100,7 +100,7 @@ fn diff_by_paths(
         reading: Reading {
             null_keys: matches.get_flag("no-key-is-null"),
             skip_bad: matches.get_flag("skip-bad"),
-            part: part_of(matches)?,
+            part: selected_part(matches)?,
         },
         rules,
         limit: limit_of(matches)?,

@@ -1,6 +1,6 @@
 //! Comparisons of two inputs, and the output of their reports.
 
-use crate::progress::{Cleared, Counted, Progress};
+use crate::progress::{Counted, ErasingWriter, Progress};
 use crate::trouble::{document_trouble, sorted_trouble, table_trouble};
 use diff_aligned::aligned::{Sheet, push_aligned};
 use diff_keys::outcome::Outcome;
@@ -184,7 +184,7 @@ fn print_report(
     progress: &Progress<'_>,
     task: Task<'_>,
 ) -> Result<Ending> {
-    let mut out = Cleared {
+    let mut out = ErasingWriter {
         writer: io::writer(rt),
         progress,
     };
@@ -199,7 +199,7 @@ fn print_text(
     progress: &Progress<'_>,
     ending: Ending,
 ) -> Result<Ending> {
-    let mut out = Cleared {
+    let mut out = ErasingWriter {
         writer: io::writer(rt),
         progress,
     };

@@ -203,10 +203,13 @@ fn sought_in<'a, 'p>(
 
 impl Search<'_, '_> {
     /// Searches the document in a line for the paths. Ignores a line that is not a JSON object.
+    /// Fails if memory runs out.
     fn read_line(&mut self, alloc: Global, line: &str) -> Result<(), AllocError> {
         let mut scratch = Scratch::new(alloc);
-        let Ok(document) = Value::parse(alloc, line, &mut scratch) else {
-            return Ok(());
+        let document = match Value::parse(alloc, line, &mut scratch) {
+            Ok(document) => document,
+            Err(json::Error::OutOfMemory) => return Err(AllocError),
+            Err(_) => return Ok(()),
         };
         if !matches!(document, Value::Object(_)) {
             return Ok(());

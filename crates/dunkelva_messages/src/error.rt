@@ -93,10 +93,10 @@ impl Error {
 
     /// Returns the message up to the first colon and blank. This part names the options that the
     /// error is about.
-    pub fn claim(&self) -> &str {
+    pub fn subject(&self) -> &str {
         let message = self.message.as_str();
         match message.split_once(": ") {
-            Some((claim, _)) => claim,
+            Some((subject, _)) => subject,
             None => message,
         }
     }

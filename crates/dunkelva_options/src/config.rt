@@ -357,13 +357,13 @@ fn no_table(text: &str, error: &toml::de::Error) -> Error {
     };
     let number = line_at(text, span.start);
     let line = text.lines().nth(number.saturating_sub(1));
+    if line.is_some_and(is_other_format) {
+        return trouble!("line {number}: options are TOML, as key = \"id\"").hint(error.message());
+    }
     if line.is_some_and(lacks_quotes) {
         return trouble!("line {number}: put text in quotes, as in key = \"id\"").hint(
             error.message(),
         );
-    }
-    if line.is_some_and(is_other_format) {
-        return trouble!("line {number}: options are TOML, as key = \"id\"").hint(error.message());
     }
     trouble!("line {number}: {}", error.message())
 }
@@ -409,7 +409,7 @@ pub fn config_for(rt: &HostRuntime, words: &[String]) -> Result<Config> {
 
 /// Returns whether the beginning of an error's message names an option that the config file sets.
 fn is_of_file(error: &Error, config: &Config) -> bool {
-    for word in error.claim().split(' ') {
+    for word in error.subject().split(' ') {
         if let Some(option) = word.strip_prefix("--") {
             if is_given(&config.words, option) {
                 return true;

@@ -58,17 +58,17 @@ pub fn refuse_unsorted(matches: &ArgMatches<'_>) -> Result<()> {
 }
 
 /// Returns the part of the rows to compare, or `None` if all rows are compared. Fails if
-/// `--partition` is invalid, or a key column is compared as numbers.
+/// `--partition` is invalid, or is given while a key column is compared as numbers.
 pub fn part_of_rows(matches: &ArgMatches<'_>, names: &Names<'_>) -> Result<Option<Part>> {
     if matches.contains_id("partition") {
         refuse_numbers(matches, names)?;
     }
-    part_of(matches)
+    selected_part(matches)
 }
 
-/// Returns the part of the documents to compare, or `None` if all are compared. Fails if
-/// `--partition` is invalid.
-pub fn part_of(matches: &ArgMatches<'_>) -> Result<Option<Part>> {
+/// Returns the part of the rows or documents that `--partition` selects, or `None` if the option
+/// is not given. Fails if its value is not `I/N` with I from 1 to N.
+pub fn selected_part(matches: &ArgMatches<'_>) -> Result<Option<Part>> {
     let Some(text) = matches.get_str("partition") else {
         return Ok(None);
     };

@@ -20,7 +20,8 @@ use json_paths::path::Step;
 use std::alloc::Global;
 
 /// Returns whether two texts are the same number, such as `1.5` and `1.50`. Fails with
-/// `WideExponent` if an exponent has more than 30 digits, unless the texts are equal.
+/// `WideExponent` if an exponent has more than 30 digits, not counting leading zeros, unless the
+/// texts are equal.
 fn are_same_numbers(alloc: Global, left: &str, right: &str) -> Result<bool, NumberError>
     ensures same { IfOk result
         (λ b. b ≡ bytes_eq (normal_number left.now) (normal_number right.now)) }

@@ -36,8 +36,8 @@ fn push_quoted(alloc: Global, path: &mut Vec<u8>, name: &str) -> Result<(), Allo
     Ok(())
 }
 
-/// Appends the step to the member named `key`: `.key`, or `."a b"` if the name needs quotes. At the
-/// beginning of a path a name without quotes has no dot.
+/// Appends to a path the step that leads to the member named `key`: `.key`, or `."a b"` if the name
+/// needs quotes. At the beginning of a path a name without quotes has no dot.
 fn push_step(alloc: Global, path: &mut Vec<u8>, key: &str) -> Result<(), AllocError>
     ensures { OnOk result (path.new.items ≡ path.old.items ++ name_text path.old.items key.now) }
 {

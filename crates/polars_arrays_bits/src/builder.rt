@@ -9,7 +9,7 @@ ghost use Rattle.polars_arrays_bits.specs.Errors.{IsMemory};
 use crate::bit_mask::BitMask;
 use crate::bitmap::Bitmap;
 use crate::error::ComputeError;
-use polars_arrays_words::folds::{Blocks, Fours, Pairs};
+use polars_arrays_words::folds::{BitPairs, Blocks, Fours};
 use polars_arrays_words::packing::TruthValues;
 use polars_arrays_words::source::BitSource;
 use polars_arrays_words::words::WORD_BITS;
@@ -139,7 +139,7 @@ impl BitmapBuilder {
         let _len = items.len();
         let (words, by) = items.packed();
         match width {
-            2 => self.extend_source(&Pairs { words, by }, n),
+            2 => self.extend_source(&BitPairs { words, by }, n),
             4 => self.extend_source(&Fours { words, by }, n),
             _ => {
                 let count = n;

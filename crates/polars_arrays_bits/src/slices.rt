@@ -1,6 +1,6 @@
 //! Element-wise comparisons of slices.
 
-ghost use Rattle.std.specs.Prelude.{◌≡◌, ℕ, ◌+◌, ◌<◌, ◌≤◌, false, ◌&&◌, take, drop, map, length};
+ghost use Rattle.std.specs.Prelude.{◌≡◌, ℕ, ◌<◌, ◌≤◌, false, ◌&&◌, map, length};
 ghost use Rattle.std.specs.Prelude.{MatchResult};
 ghost use Rattle.std.specs.Simd.Lanes.{zip2};
 ghost use Rattle.polars_arrays_words.specs.Bits.{first_of, is_bit};
@@ -14,17 +14,16 @@ use polars_arrays_words::packing::{TruthValues, pack_few};
 use std::alloc::Global;
 
 /// The element-wise comparison of two slices of equal length: truth value `i` is the result of
-/// comparing `left[i]` with `right[i]`. (`Pairs` in `folds.rt` of `polars_arrays_words` is another
-/// type, for pairs of adjacent bits.)
+/// comparing `left[i]` with `right[i]`.
 #[derive(Drop)]
-pub struct Pairs<'a, L, R, E> {
+pub struct SlicePairs<'a, L, R, E> {
     pub comparison: &'a E,
     pub left: &'a [L],
     pub right: &'a [R],
     pub ghost one_length: { length right.now ≡ length left.now },
 }
 
-impl<'a, L: Copy, R: Copy, E: Comparison<L, R>> TruthValues for Pairs<'a, L, R, E> {
+impl<'a, L: Copy, R: Copy, E: Comparison<L, R>> TruthValues for SlicePairs<'a, L, R, E> {
     ghost values = { λ p. zip2 (E.holds p.comparison.now) p.left.now p.right.now };
 
     #[inline(always)]
@@ -40,8 +39,8 @@ impl<'a, L: Copy, R: Copy, E: Comparison<L, R>> TruthValues for Pairs<'a, L, R, 
     }
 
     #[inline(always)]
-    fn packs_by_bit(&self) -> bool {
-        self.comparison.packs_by_bit()
+    fn packs_in_registers(&self) -> bool {
+        self.comparison.packs_in_registers()
     }
 }
 
@@ -59,7 +58,7 @@ pub fn compare_pairs<L: Copy, R: Copy, E: Comparison<L, R>>(
 {
     Bitmap::from_values(
         alloc,
-        &Pairs {
+        &SlicePairs {
             comparison,
             left,
             right,
@@ -83,38 +82,13 @@ pub fn compare_few<L: Copy, R: Copy, E: Comparison<L, R>>(
     ensures rest { (i : ℕ) → length left.now ≤ i → i < 64 → is_bit result i ≡ false }
 {
     pack_few(
-        &Pairs {
+        &SlicePairs {
             comparison,
             left,
             right,
         },
         0,
         left.len(),
-    )
-}
-
-/// Compares `count` elements of `left`, beginning at index `left_at`, with `count` elements of
-/// `right`, beginning at index `right_at`. Bit `i` of the result is true if the comparison holds
-/// for `left[left_at + i]` and `right[right_at + i]`. The error is `Memory`.
-pub fn compare_windows<L: Copy, R: Copy, E: Comparison<L, R>>(
-    alloc: Global,
-    comparison: &E,
-    left: &[L],
-    left_at: usize,
-    right: &[R],
-    right_at: usize,
-    count: usize,
-) -> Result<Bitmap, ComputeError>
-    requires left_in { left_at + count ≤ length left.now }
-    requires right_in { right_at + count ≤ length right.now }
-    ensures { MatchResult result (λ bits. bits ≡ zip2 (E.holds comparison.now)
-        (take count (drop left_at left.now)) (take count (drop right_at right.now))) IsMemory }
-{
-    compare_pairs(
-        alloc,
-        comparison,
-        &left[left_at..left_at + count],
-        &right[right_at..right_at + count],
     )
 }
 
@@ -130,7 +104,7 @@ pub fn and_pairs<L: Copy, R: Copy, E: Comparison<L, R>>(
     requires as_many { length left.now ≡ length bits.old }
     ensures { bits.new ≡ zip2 ◌&&◌ bits.old (zip2 (E.holds comparison.now) left.now right.now) }
 {
-    bits.and_assign_values(&Pairs {
+    bits.and_assign_values(&SlicePairs {
         comparison,
         left,
         right,
@@ -159,8 +133,8 @@ impl<'a, L: Copy, R: Copy, E: Comparison<L, R>> TruthValues for Against<'a, L, R
     }
 
     #[inline(always)]
-    fn packs_by_bit(&self) -> bool {
-        self.comparison.packs_by_bit()
+    fn packs_in_registers(&self) -> bool {
+        self.comparison.packs_in_registers()
     }
 }
 

@@ -18,7 +18,7 @@ pub trait Comparison<L, R> {
     /// many bytes at once. Registers are faster for elements of more than 64 bits. The packed bits
     /// don't depend on this choice.
     #[inline(always)]
-    fn packs_by_bit(&self) -> bool {
+    fn packs_in_registers(&self) -> bool {
         false
     }
 }
@@ -36,7 +36,7 @@ impl<T: NativeType> Comparison<T, T> for Equal {
     }
 
     #[inline(always)]
-    fn packs_by_bit(&self) -> bool {
+    fn packs_in_registers(&self) -> bool {
         has_wide_values::<T>()
     }
 }
@@ -54,7 +54,7 @@ impl<T: NativeType> Comparison<T, T> for Unequal {
     }
 
     #[inline(always)]
-    fn packs_by_bit(&self) -> bool {
+    fn packs_in_registers(&self) -> bool {
         has_wide_values::<T>()
     }
 }
@@ -72,7 +72,7 @@ impl<T: NativeType> Comparison<T, T> for Less {
     }
 
     #[inline(always)]
-    fn packs_by_bit(&self) -> bool {
+    fn packs_in_registers(&self) -> bool {
         has_wide_values::<T>()
     }
 }
@@ -90,7 +90,7 @@ impl<T: NativeType> Comparison<T, T> for LessOrEqual {
     }
 
     #[inline(always)]
-    fn packs_by_bit(&self) -> bool {
+    fn packs_in_registers(&self) -> bool {
         has_wide_values::<T>()
     }
 }
@@ -108,7 +108,7 @@ impl<T: NativeType> Comparison<T, T> for Greater {
     }
 
     #[inline(always)]
-    fn packs_by_bit(&self) -> bool {
+    fn packs_in_registers(&self) -> bool {
         has_wide_values::<T>()
     }
 }
@@ -126,7 +126,7 @@ impl<T: NativeType> Comparison<T, T> for GreaterOrEqual {
     }
 
     #[inline(always)]
-    fn packs_by_bit(&self) -> bool {
+    fn packs_in_registers(&self) -> bool {
         has_wide_values::<T>()
     }
 }

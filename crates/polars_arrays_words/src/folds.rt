@@ -8,7 +8,7 @@ ghost use Rattle.polars_arrays_words.specs.Blocks.{block_true, IsFolded};
 use crate::packing::{TruthValues, put};
 use crate::runs::all_set;
 use crate::source::BitSource;
-use crate::words::{join_from, word_or_zero};
+use crate::words::{bits_from, word_or_zero};
 
 // Returns `word | (word >> by)`, with 0 for each bit that is 0 in `mask`.
 #[inline(always)]
@@ -79,7 +79,7 @@ fn inner_word_at(words: &[u64], by: usize, k: usize) -> u64
     requires inner { k + 1 < length words.now }
     ensures { IsWord (λ p. bit_of words.now (by + p)) k result }
 {
-    join_from(words[k], words[k + 1], by)
+    bits_from(words[k], words[k + 1], by)
 }
 
 // Returns word `k` of the bits that begin at bit `by` of the first word, with zeros past the end of
@@ -90,21 +90,19 @@ fn word_at(words: &[u64], by: usize, k: usize) -> u64
     requires few { k < 2 ^ 60 }
     ensures { IsWord (λ p. bit_of words.now (by + p)) k result }
 {
-    join_from(word_or_zero(words, k), word_or_zero(words, k + 1), by)
+    bits_from(word_or_zero(words, k), word_or_zero(words, k + 1), by)
 }
 
 /// A source with a bit for each pair of adjacent bits, true if both bits of the pair are true. The
 /// first pair begins at bit `by` of the first word. Bits past the end of `words` are false.
-/// (`Pairs` in `slices.rt` of `polars_arrays_bits` is another type, for two slices that are
-/// compared.)
 #[derive(Drop)]
-pub struct Pairs<'a> {
+pub struct BitPairs<'a> {
     pub words: &'a [u64],
     pub by: usize,
     pub ghost within_word: { by < 64 },
 }
 
-impl BitSource for Pairs<'_> {
+impl BitSource for BitPairs<'_> {
     ghost use Rattle.std.specs.Prelude.{◌+◌, ◌-◌, ◌/◌, length};
     ghost use Rattle.polars_arrays_words.specs.Bits.{bit_of};
     ghost use Rattle.polars_arrays_words.specs.Blocks.{block_true};
@@ -210,7 +208,7 @@ impl TruthValues for Blocks<'_> {
 
     // Values are packed in registers, since each value reads bits of two words.
     #[inline(always)]
-    fn packs_by_bit(&self) -> bool {
+    fn packs_in_registers(&self) -> bool {
         true
     }
 }

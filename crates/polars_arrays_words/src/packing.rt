@@ -29,7 +29,7 @@ pub trait TruthValues {
     /// `pack_by_sixteens`. Registers are faster if each value is computed from more than 64 bits.
     /// The packed bits don't depend on this choice.
     #[inline(always)]
-    fn packs_by_bit(&self) -> bool {
+    fn packs_in_registers(&self) -> bool {
         false
     }
 }
@@ -184,7 +184,7 @@ fn pack_by_bytes<V: TruthValues>(values: &V, at: usize, count: usize) -> u64
 }
 
 // Packs `count` truth values from index `at` on into a word, with zeros above them. Uses the way
-// that `packs_by_bit` asks for.
+// that `packs_in_registers` asks for.
 #[inline(always)]
 pub(crate) fn pack_word<V: TruthValues>(values: &V, at: usize, count: usize) -> u64
     requires few { count ≤ 64 }
@@ -192,7 +192,7 @@ pub(crate) fn pack_word<V: TruthValues>(values: &V, at: usize, count: usize) -> 
     requires fits { at + count < 2 ^ 64 }
     ensures { IsPacked result (V.values values.now) at count }
 {
-    if values.packs_by_bit() {
+    if values.packs_in_registers() {
         pack_by_bytes(values, at, count)
     } else {
         pack_by_flags(values, at, count)
@@ -212,7 +212,7 @@ pub fn pack_few<V: TruthValues>(values: &V, at: usize, count: usize) -> u64
 {
     if count < 16 {
         pack_bits(values, at, count)
-    } else if values.packs_by_bit() {
+    } else if values.packs_in_registers() {
         pack_by_bytes(values, at, count)
     } else {
         pack_by_sixteens(values, at, count)

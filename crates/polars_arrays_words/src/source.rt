@@ -4,7 +4,7 @@ ghost use Rattle.std.specs.Prelude.{◌≡◌, ℕ, ◌+◌, ◌-◌, ◌*◌, �
 ghost use Rattle.std.specs.Prelude.{vec_capacity, count_by, IfOk};
 ghost use Rattle.polars_arrays_words.specs.Bits.{bit_of, window, true_count, IsWord, AreWords};
 
-use crate::words::{WORD_BITS, join, join_from, join_lanes, word_or_zero};
+use crate::words::{WORD_BITS, bits_from, join, join_lanes, word_or_zero};
 use std::alloc::{AllocError, Global};
 
 /// A sequence of bits that is read in words of 64. The first bit of a word is its lowest bit.
@@ -135,12 +135,12 @@ impl BitSource for Placed<'_> {
 
     #[inline]
     fn inner_word(&self, k: usize) -> u64 {
-        join_from(self.words[k], self.words[k + 1], self.by)
+        bits_from(self.words[k], self.words[k + 1], self.by)
     }
 
     #[inline]
     fn word(&self, k: usize) -> u64 {
-        join_from(
+        bits_from(
             word_or_zero(self.words, k),
             word_or_zero(self.words, k + 1),
             self.by,

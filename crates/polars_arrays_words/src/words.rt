@@ -42,7 +42,7 @@ pub(crate) fn join_lanes(low: u64, high: u64, by: usize) -> u64
 // Returns the 64 bits that begin at bit `by` of `low` and continue in `high`. `by` may be 0, and
 // then `low` is returned. The `if` costs no branch: the compiler emits one double-word shift.
 #[inline]
-pub(crate) fn join_from(low: u64, high: u64, by: usize) -> u64
+pub(crate) fn bits_from(low: u64, high: u64, by: usize) -> u64
     requires { by < 64 }
     ensures { (i : ℕ) → i < 64 → is_bit result i ≡ bit_of (low ∷ high ∷ []) (by + i) }
 {
@@ -58,7 +58,7 @@ pub fn word_from(words: &[u64], by: usize, at: usize) -> u64
 {
     let begin = by + at % WORD_BITS;
     let k = at / WORD_BITS + begin / WORD_BITS;
-    join_from(
+    bits_from(
         word_or_zero(words, k),
         word_or_zero(words, k + 1),
         begin % WORD_BITS,

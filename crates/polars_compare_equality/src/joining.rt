@@ -10,8 +10,7 @@ ghost use Rattle.polars_compare_leaves.specs.Joining.{told};
 use polars_arrays_bits::bitmap::Bitmap;
 use polars_arrays_bits::error::ComputeError;
 use polars_arrays_flat::array::Array;
-use polars_arrays_flat::mask::Mask;
-use polars_compare_leaves::joining::{Relation, join_nulls};
+use polars_compare_leaves::joining::{Relation, join_masks};
 use std::alloc::Global;
 
 /// Combines the raw bits of a comparison of two arrays with their masks, and returns the bits of
@@ -38,7 +37,7 @@ pub(crate) fn join_rows<A: Array>(
 {
     let left_mask = left.missing_mask(alloc)?;
     let right_mask = right.missing_mask(alloc)?;
-    join_nulls(alloc, relation, raw, &left_mask, &right_mask)
+    join_masks(alloc, relation, raw, left_mask.bits(), right_mask.bits())
 }
 
 /// Combines the raw bits of a comparison of each row with one scalar, which is not null, with the
@@ -62,6 +61,5 @@ pub(crate) fn join_scalar<A: Array>(
         IsMemory }
 {
     let mask = rows.missing_mask(alloc)?;
-    let no_mask = Mask::all();
-    join_nulls(alloc, relation, raw, &mask, &no_mask)
+    join_masks(alloc, relation, raw, mask.bits(), None)
 }

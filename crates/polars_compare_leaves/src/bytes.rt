@@ -178,7 +178,7 @@ impl<'a, L: ByteRows, R: ByteRows, E: ByteComparison> TruthValues for StringPair
     }
 
     #[inline(always)]
-    fn packs_by_bit(&self) -> bool {
+    fn packs_in_registers(&self) -> bool {
         true
     }
 }
@@ -240,7 +240,7 @@ impl<'a, L: ByteRows, E: ByteComparison> TruthValues for StringsAgainst<'a, L, E
     }
 
     #[inline(always)]
-    fn packs_by_bit(&self) -> bool {
+    fn packs_in_registers(&self) -> bool {
         true
     }
 }
@@ -271,7 +271,7 @@ impl<'a, L: ByteRows, E: ByteComparison> TruthValues for StringsOnBlock<'a, L, E
     }
 
     #[inline(always)]
-    fn packs_by_bit(&self) -> bool {
+    fn packs_in_registers(&self) -> bool {
         true
     }
 }

@@ -191,21 +191,3 @@ pub fn join_masks<R: RawValues>(
         (Some(left), Some(right)) => join_both(alloc, relation, raw, &left, &right),
     }
 }
-
-/// Combines the raw truth values of a comparison with the masks of both sides, as `join_masks`
-/// does. The masks may be those of windows. The error is `Memory`.
-#[inline(always)]
-pub fn join_nulls<R: RawValues>(
-    alloc: Global,
-    relation: Relation,
-    raw: R,
-    left: &Mask<'_>,
-    right: &Mask<'_>,
-) -> Result<Bitmap, ComputeError>
-    requires left { HasBits (length (R.values raw)) left.now }
-    requires right { HasBits (length (R.values raw)) right.now }
-    ensures { MatchResult result
-        (Joined (told relation) left.now right.now (R.values raw)) IsMemory }
-{
-    join_masks(alloc, relation, raw, left.bits(), right.bits())
-}

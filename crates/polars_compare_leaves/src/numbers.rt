@@ -9,12 +9,12 @@ ghost use Rattle.polars_arrays_flat.specs.StoredRows.{number_slots};
 ghost use Rattle.polars_arrays_flat.specs.Validity.{HasBits, window};
 ghost use Rattle.polars_compare_leaves.specs.Joining.{Joined, told};
 
-use crate::joining::{Relation, join_nulls};
+use crate::joining::{Relation, join_masks};
 use crate::row_comparison::RowComparison;
 use polars_arrays_bits::bitmap::Bitmap;
 use polars_arrays_bits::error::ComputeError;
 use polars_arrays_bits::mutable_bitmap::MutableBitmap;
-use polars_arrays_bits::slices::{Pairs, and_pairs, compare_constant, compare_few};
+use polars_arrays_bits::slices::{SlicePairs, and_pairs, compare_constant, compare_few};
 use polars_arrays_flat::mask::Mask;
 use polars_arrays_flat::primitive::PrimitiveArray;
 use polars_arrays_numbers::native_type::NativeType;
@@ -37,7 +37,7 @@ pub fn compare_number_windows<T: NativeType, E: RowComparison<T>>(
         (window a n (number_slots T.value left.now.values))
         (window b n (number_slots T.value right.now.values))) IsMemory }
 {
-    let pairs = Pairs {
+    let pairs = SlicePairs {
         comparison,
         left: &left.values()[a..a + n],
         right: &right.values()[b..b + n],
@@ -111,12 +111,12 @@ pub fn join_numbers<T: NativeType, E: RowComparison<T>>(
         (zip2 E.rows (number_slots T.value left.now.values)
         (number_slots T.value right.now.values))) IsMemory }
 {
-    let pairs = Pairs {
+    let pairs = SlicePairs {
         comparison,
         left: left.values(),
         right: right.values(),
     };
-    join_nulls(alloc, relation, &pairs, left_mask, right_mask)
+    join_masks(alloc, relation, &pairs, left_mask.bits(), right_mask.bits())
 }
 
 /// Returns a bit for each stored row: 1 if the comparison holds for the row and the number `right`.

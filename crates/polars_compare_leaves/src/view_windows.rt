@@ -161,7 +161,7 @@ impl<'a, E: ViewComparison> TruthValues for ViewsAgainst<'a, E> {
     }
 
     #[inline(always)]
-    fn packs_by_bit(&self) -> bool {
+    fn packs_in_registers(&self) -> bool {
         true
     }
 }

@@ -11,7 +11,7 @@ ghost use Rattle.polars_compare_nested.specs.Bits.{RawBits, SameBits};
 use polars_arrays_bits::bitmap::Bitmap;
 use polars_arrays_bits::error::ComputeError;
 use polars_arrays_nested::any_array::AnyArray;
-use polars_compare_leaves::joining::{Relation, join_nulls};
+use polars_compare_leaves::joining::{Relation, join_masks};
 use std::alloc::Global;
 
 /// Combines the raw bits of a comparison of two windows with their masks, and returns the bits of
@@ -41,5 +41,11 @@ pub(crate) fn join_windows(
     let n = raw.len();
     let left_mask = left.window_mask(alloc, a, n)?;
     let right_mask = right.window_mask(alloc, b, n)?;
-    join_nulls(alloc, Relation::Equal, raw, &left_mask, &right_mask)
+    join_masks(
+        alloc,
+        Relation::Equal,
+        raw,
+        left_mask.bits(),
+        right_mask.bits(),
+    )
 }

@@ -277,7 +277,7 @@ impl<O: Offset> TruthValues for ListBits<'_, '_, O> {
     // Packs truth values in registers. This is faster here, since each value is computed from more
     // than 64 bits: from two offsets and the bits between them.
     #[inline(always)]
-    fn packs_by_bit(&self) -> bool {
+    fn packs_in_registers(&self) -> bool {
         true
     }
 }
@@ -401,7 +401,7 @@ impl<O: Offset> TruthValues for WordLists<'_, O> {
     // Packs truth values in registers. This is faster here, since each value is computed by a shift
     // of the word, which has no vector form.
     #[inline(always)]
-    fn packs_by_bit(&self) -> bool {
+    fn packs_in_registers(&self) -> bool {
         true
     }
 }

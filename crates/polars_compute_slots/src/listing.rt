@@ -111,7 +111,7 @@ pub(crate) fn with_null<T: UniqueNumber>(
 
 /// Returns an array of the numbers of the range whose slots are set, ascending. A null is the last
 /// row if the slot of null is set. The error is `Memory`.
-pub fn list_set<T: UniqueNumber, S: Slots>(
+pub fn list_seen<T: UniqueNumber, S: Slots>(
     alloc: Global,
     slots: &S,
     span: &Span<T>,

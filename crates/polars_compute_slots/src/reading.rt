@@ -10,7 +10,7 @@ ghost use Rattle.polars_arrays_flat.specs.StoredRows.{number_slots};
 ghost use Rattle.polars_compute_slots.specs.Slots.{AreNumbers, IsCounted, slot_state};
 ghost use Rattle.polars_compute_slots.specs.State.{finalised, read_by, set_of};
 
-use crate::listing::{list_set, push_if, with_null};
+use crate::listing::{list_seen, push_if, with_null};
 use crate::number::UniqueNumber;
 use crate::slots::Slots;
 use crate::span::Span;
@@ -63,7 +63,8 @@ impl ReadCounts {
     }
 }
 
-// Returns the counts if no value means null. `count` is the number of values of the range.
+// Returns the counts of a state in which no value means null. The range has `count` values, and the
+// slot after theirs is that of null.
 fn whole_counts<S: Slots>(slots: &S, count: usize) -> ReadCounts
     requires { length (S.set_slots slots.now) ≡ count + 1 }
     ensures counted { (least : ℤ)
@@ -158,7 +159,7 @@ pub fn list_read<T: UniqueNumber, S: Slots, N: NullValues>(
         (slot_state (T.value span.now.least) span.now.count (S.set_slots slots.now)))) IsMemory }
 {
     if !nulls.may_be_null() {
-        return list_set(alloc, slots, span);
+        return list_seen(alloc, slots, span);
     }
     let counts = read_counts(slots, span, nulls);
     let numbers = list_values(alloc, slots, span, nulls, counts.seen + 1)?;

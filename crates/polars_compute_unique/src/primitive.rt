@@ -19,7 +19,7 @@ use polars_arrays_bits::mutable_bitmap::MutableBitmap;
 use polars_arrays_flat::primitive::PrimitiveArray;
 use polars_arrays_numbers::steps::Steps;
 use polars_compute_slots::accepting::accepts_rows;
-use polars_compute_slots::listing::{all_set, count_finalised, count_set, least_from, list_set};
+use polars_compute_slots::listing::{all_set, count_finalised, count_set, least_from, list_seen};
 use polars_compute_slots::marking::mark_rows;
 use polars_compute_slots::number::UniqueNumber;
 use polars_compute_slots::reading::{NullValues, ReadCounts, list_read, read_counts};
@@ -233,8 +233,8 @@ impl<T: UniqueNumber> RangedUniqueKernel for PrimitiveRangedUniqueState<T> {
     fn finalize_unique(self, alloc: Global) -> Result<PrimitiveArray<T>, ComputeError> {
         let PrimitiveRangedUniqueState { span, seen } = self;
         match seen {
-            Seen::Few(slots) => list_set(alloc, &slots, &span),
-            Seen::Many(slots) => list_set(alloc, &slots, &span),
+            Seen::Few(slots) => list_seen(alloc, &slots, &span),
+            Seen::Many(slots) => list_seen(alloc, &slots, &span),
         }
     }
 

@@ -13,7 +13,7 @@ use crate::operation::Reduction;
 
 // Returns a value unchanged. The proof learns from this call that the bits of the value, read as a
 // row again, give its row.
-fn by_bits<A: KernelArray>(found: Option<A::Value>) -> Option<A::Value>
+fn unchanged<A: KernelArray>(found: Option<A::Value>) -> Option<A::Value>
     ensures same { result ≡ found }
     ensures bits { option_map A.value_row result
         ≡ option_map (bits_row A.kind)
@@ -34,9 +34,9 @@ pub fn reduce<A: KernelArray>(reduction: Reduction, array: &A) -> Option<A::Valu
         ≡ reduction_of reduction A.kind (rows_under (A.mask array.now) (A.slots array.now)) }
 {
     match reduction {
-        Reduction::And => by_bits::<A>(array.reduce_and()),
-        Reduction::Or => by_bits::<A>(array.reduce_or()),
-        Reduction::Xor => by_bits::<A>(array.reduce_xor()),
+        Reduction::And => unchanged::<A>(array.reduce_and()),
+        Reduction::Or => unchanged::<A>(array.reduce_or()),
+        Reduction::Xor => unchanged::<A>(array.reduce_xor()),
         Reduction::Least => array.min_ignore_nan_kernel(),
         Reduction::Greatest => array.max_ignore_nan_kernel(),
     }

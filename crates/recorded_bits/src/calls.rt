@@ -182,7 +182,10 @@ pub const CALLS: [(&str, Call); 67] = [
     ("mutable", Call::MutableBits),
     ("buffer", Call::Buffer),
     ("compare", Call::Compared(Compared::Two)),
-    ("packs_by_bit", Call::Compared(Compared::PacksByBit)),
+    (
+        "packs_in_registers",
+        Call::Compared(Compared::PacksInRegisters),
+    ),
     ("compare_pairs", Call::Compared(Compared::Pairs)),
     ("compare_windows", Call::Compared(Compared::Windows)),
     ("compare_constant", Call::Compared(Compared::Constant)),

@@ -2,7 +2,7 @@
 //! `greater` or `greater_or_equal`, and a LIST is a count and that many numbers.
 //!
 //! - `compare COMPARISON TYPE LEFT RIGHT`: whether the comparison holds of two numbers
-//! - `packs_by_bit COMPARISON TYPE`: whether the numbers have more than 64 bits
+//! - `packs_in_registers COMPARISON TYPE`: whether the numbers have more than 64 bits
 //! - `compare_pairs COMPARISON TYPE LIST LIST`: for two lists of equal length, whether it holds at
 //!   each place
 //! - `compare_windows COMPARISON TYPE LIST AT LIST AT N`: for N numbers of each list from a place
@@ -14,7 +14,7 @@ use crate::answer_text::write_value;
 use crate::bits::{is_within, read_pair};
 use crate::number_types::{Asked, ask_next};
 use polars_arrays_bits::buffer::Buffer;
-use polars_arrays_bits::slices::{compare_constant, compare_pairs, compare_windows};
+use polars_arrays_bits::slices::{compare_constant, compare_pairs};
 use polars_arrays_numbers::comparison::{
     Comparison, Equal, Greater, GreaterOrEqual, Less, LessOrEqual, Unequal,
 };
@@ -31,7 +31,7 @@ use std::str::FromStr;
 #[derive(Clone, Copy)]
 pub enum Compared {
     Two,
-    PacksByBit,
+    PacksInRegisters,
     Pairs,
     Windows,
     Constant,
@@ -89,7 +89,7 @@ fn ask<T: NativeType + FromStr<Err: Drop>, E: Comparison<T, T>>(
 ) -> Result<String, Fault> {
     match compared {
         Compared::Two => two::<T, E>(alloc, comparison, words),
-        Compared::PacksByBit => write_value(alloc, comparison.packs_by_bit()),
+        Compared::PacksInRegisters => write_value(alloc, comparison.packs_in_registers()),
         Compared::Pairs => pairs::<T, E>(alloc, comparison, words),
         Compared::Windows => windows::<T, E>(alloc, comparison, words),
         Compared::Constant => constant::<T, E>(alloc, comparison, words),
@@ -171,8 +171,9 @@ fn write_windows<T: NativeType, E: Comparison<T, T>>(
     if !is_within(left.at, count, these.len()) || !is_within(right.at, count, those.len()) {
         return Err(Fault::Case);
     }
-    let bits = compare_windows(alloc, comparison, these, left.at, those, right.at, count);
-    write_made(alloc, bits)
+    let these = &these[left.at..left.at + count];
+    let those = &those[right.at..right.at + count];
+    write_made(alloc, compare_pairs(alloc, comparison, these, those))
 }
 
 // Compares the numbers of a list with one number.

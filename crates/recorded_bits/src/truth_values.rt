@@ -25,7 +25,7 @@ impl TruthValues for SingleBits<'_> {
         self.bits.get_bit(i)
     }
 
-    fn packs_by_bit(&self) -> bool {
+    fn packs_in_registers(&self) -> bool {
         self.wide
     }
 }

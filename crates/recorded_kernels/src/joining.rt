@@ -1,7 +1,7 @@
 //! The join of raw bits with two masks.
 //!
-//! - `join_nulls RELATION BITS VALIDITY VALIDITY`: the bits joined; RELATION is `equal` or
-//!   `unequal`
+//! - `join_nulls RELATION BITS VALIDITY VALIDITY`: the bits joined with masks made of the
+//!   validities; RELATION is `equal` or `unequal`
 //! - `join_masks RELATION BITS VALIDITY VALIDITY`: the bits joined with windows of validities
 
 ghost use Rattle.std.specs.Prelude.{◌≡◌};
@@ -10,7 +10,7 @@ use polars_arrays_bits::bit_mask::BitMask;
 use polars_arrays_bits::bitmap::Bitmap;
 use polars_arrays_flat::mask::Mask;
 use polars_arrays_flat::validity::has_bits;
-use polars_compare_leaves::joining::{Relation, join_masks, join_nulls};
+use polars_compare_leaves::joining::{Relation, join_masks};
 use recorded_text::bits_text::write_made;
 use recorded_text::fault::Fault;
 use recorded_text::parts::{Kept, read_bits, read_validity};
@@ -69,7 +69,7 @@ fn join_read(
     let joined = match join {
         Join::Nulls => {
             let (left, right) = (Mask::lent(left.as_ref()), Mask::lent(right.as_ref()));
-            join_nulls(alloc, relation, raw, &left, &right)
+            join_masks(alloc, relation, raw, left.bits(), right.bits())
         }
         Join::Masks => join_masks(alloc, relation, raw, lent(left), lent(right)),
     };

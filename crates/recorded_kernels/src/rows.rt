@@ -51,7 +51,8 @@ fn ask_kinds(
         _ => ask_ordered_kinds(alloc, question, these, those))
 }
 
-// Compares the rows of two arrays of one kind that has an order.
+// Returns the answer to a question about the rows of two arrays of a kind that has an order. Fails
+// with `Case` if the kinds differ, or if the kernel can't be called on these arrays.
 fn ask_ordered_kinds(
     alloc: Global,
     question: Question,

@@ -24,8 +24,8 @@ use recorded_text::store::Store;
 use recorded_text::words::Words;
 use std::alloc::Global;
 
-// Splits words at a bar.
-fn part_at_bar<'a>(words: &'a [&'a str]) -> Result<(&'a [&'a str], &'a [&'a str]), Fault> {
+// Splits words at the first bar, and leaves the bar out. Fails with `Word` if there is no bar.
+fn split_at_bar<'a>(words: &'a [&'a str]) -> Result<(&'a [&'a str], &'a [&'a str]), Fault> {
     match words.iter().position(|word| *word == "|") {
         Some(at) => Ok((&words[..at], &words[at + 1..])),
         None => Err(Fault::Word),
@@ -42,7 +42,7 @@ pub fn of_range<N: NewStates<State: CountedState>>(
     requires { HasGoodArrays store.now }
 {
     let range = range?;
-    let (left, right) = part_at_bar(words.rest())?;
+    let (left, right) = split_at_bar(words.rest())?;
     write_counted(alloc, &range, store, left, right)
 }
 
@@ -164,7 +164,7 @@ pub fn of_columns<N: NewStates>(
 ) -> Result<String, Fault>
     requires { HasGoodArrays store.now }
 {
-    let (left, right) = part_at_bar(words.rest())?;
+    let (left, right) = split_at_bar(words.rest())?;
     write_columns::<N>(alloc, store, left, right)
 }
 
@@ -177,7 +177,7 @@ pub fn either_way<N: NewStates>(
 ) -> Result<String, Fault>
     requires { HasGoodArrays store.now }
 {
-    let (left, right) = part_at_bar(words.rest())?;
+    let (left, right) = split_at_bar(words.rest())?;
     let text = write_columns::<N>(alloc, store, left, right);
     add_seen(alloc, text, joined::<N>(alloc, store, right, left))
 }
@@ -190,6 +190,6 @@ pub fn read_joined<N: NewStates>(
 ) -> Result<N::State, Fault>
     requires { HasGoodArrays store.now }
 {
-    let (left, right) = part_at_bar(words.rest())?;
+    let (left, right) = split_at_bar(words.rest())?;
     joined::<N>(alloc, store, left, right)
 }

@@ -28,8 +28,8 @@ pub const LEVELS: usize = 1000;
 pub const FAR_LEVELS: usize = 100_000;
 
 /// Reads an array nested in others: the number of levels, their kinds from the outermost on,
-/// separated by commas and repeated as needed, and the array. The error is `Depth`, if there are
-/// more than `most` levels.
+/// separated by commas and repeated as needed, and the array. If there are more than `most` levels,
+/// the error is `Depth`.
 pub fn read_wrapped(alloc: Global, words: &mut Words, most: usize) -> Result<AnyArray, Fault>
     ensures { IfOk result (λ a. IsGood a) }
 {

@@ -7,7 +7,7 @@ ghost use Rattle.polars_arrays_bits.specs.Errors.{IsMemory};
 use super::BitMask;
 use crate::bitmap::Bitmap;
 use crate::error::ComputeError;
-use polars_arrays_words::folds::{Blocks, Fours, Pairs};
+use polars_arrays_words::folds::{BitPairs, Blocks, Fours};
 use std::alloc::Global;
 
 impl BitMask<'_> {
@@ -19,7 +19,7 @@ impl BitMask<'_> {
     {
         let words = self.words;
         let by = self.at;
-        Bitmap::from_source(alloc, &Pairs { words, by }, n)
+        Bitmap::from_source(alloc, &BitPairs { words, by }, n)
     }
 
     // Returns a bit for each of the first `n` blocks of four bits, true if all bits of the block

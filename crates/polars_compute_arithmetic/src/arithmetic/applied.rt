@@ -86,7 +86,7 @@ pub(crate) fn divide_pairs<T: NativeType + Zero, O: NumberOperation<T>>(
 
 // Applies the division `O` to the number `lhs` and each value of `rhs` as divisor. A row of the
 // result is null if its divisor is null or 0. The error is `Memory`.
-pub(crate) fn divide_each<T: NativeType + Zero, O: NumberOperation<T>>(
+pub(crate) fn divide_by_each<T: NativeType + Zero, O: NumberOperation<T>>(
     alloc: Global,
     lhs: T,
     rhs: PrimitiveArray<T>,

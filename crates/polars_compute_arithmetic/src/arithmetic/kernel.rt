@@ -12,7 +12,7 @@ ghost use Rattle.polars_compute_arithmetic.specs.Results.{IsAnswer, IsResult};
 ghost use Rattle.polars_compute_arithmetic.specs.Zeros.{is_nonzero};
 
 use crate::arithmetic::applied::{
-    apply_left, apply_pairs, apply_right, divide_by, divide_each, divide_pairs,
+    apply_left, apply_pairs, apply_right, divide_by, divide_by_each, divide_pairs,
 };
 use crate::arithmetic::operations::{
     Difference, FloorQuotient, Modulus, Product, Sum, TruncatedQuotient,
@@ -231,7 +231,7 @@ pub trait PrimitiveArithmeticKernelImpl: PlNumArithmetic {
             rhs) IsMemory }
         ensures owned { IfOk result (λ answer. IsTrue answer.owned) }
     {
-        divide_each::<Self, FloorQuotient>(alloc, lhs, rhs)
+        divide_by_each::<Self, FloorQuotient>(alloc, lhs, rhs)
     }
 
     /// Divides each row by a number, rounding toward 0.
@@ -260,7 +260,7 @@ pub trait PrimitiveArithmeticKernelImpl: PlNumArithmetic {
             rhs) IsMemory }
         ensures owned { IfOk result (λ answer. IsTrue answer.owned) }
     {
-        divide_each::<Self, TruncatedQuotient>(alloc, lhs, rhs)
+        divide_by_each::<Self, TruncatedQuotient>(alloc, lhs, rhs)
     }
 
     /// Returns the modulus of each row and a number as divisor: the remainder of the division that
@@ -291,7 +291,7 @@ pub trait PrimitiveArithmeticKernelImpl: PlNumArithmetic {
             IsMemory }
         ensures owned { IfOk result (λ answer. IsTrue answer.owned) }
     {
-        divide_each::<Self, Modulus>(alloc, lhs, rhs)
+        divide_by_each::<Self, Modulus>(alloc, lhs, rhs)
     }
 }
 

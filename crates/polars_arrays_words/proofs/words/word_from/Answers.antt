@@ -11,5 +11,5 @@ pub returns : goal.returns
 returns c =
     let begin = c.args.by + c.args.at % 64 in
     let below : begin % 64 < 64 = omega arith in
-    let joined = word-joined c.args.words.now (begin % 64) (c.args.at / 64 + begin / 64) c.word_or_zero.result c.word_or_zero-2.result c.join_from.result below c.word_or_zero.ensures c.word_or_zero-2.ensures c.join_from.ensures in
+    let joined = word-joined c.args.words.now (begin % 64) (c.args.at / 64 + begin / 64) c.word_or_zero.result c.word_or_zero-2.result c.bits_from.result below c.word_or_zero.ensures c.word_or_zero-2.ensures c.bits_from.ensures in
     λ i lt. joined.bits i lt ∙ ap (bit_of c.args.words.now) (place c.args.by c.args.at i)

@@ -7,9 +7,9 @@ use Rattle.polars_compare_equality.proofs.joining.join_scalar.Goals as goal
 
 pub returns : goal.returns
 returns g c =
-    MatchResult-weaker c.join_nulls.result c.join_nulls.ensures
+    MatchResult-weaker c.join_masks.result c.join_masks.ensures
     (λ bits j scalar some raw.
-    let joined = rw (c.in_ok-mask.ensures.mask, c.all-no_mask.ensures) at j in
+    let joined = rw (c.bits.ensures, c.in_ok-mask.ensures.mask) at j in
     missing-from-raw _ ⊤ _ _ _ _ _ _ bits c.in_ok-mask.ensures.bits tt
     (sym (length-replicate _ _))
     (λ i within is_null. let law = g.met.A.Array.null_law c.args.rows.now c.args.rows.now i within is_null in (law.0, refl, (tt, tt)))

@@ -7,17 +7,17 @@ use Rattle.polars_tables_operations.proofs.reducing.reduce.Goals as goal
 pub returns-in-And : goal.returns-in-And
 returns-in-And g c =
     let law = g.met.A.KernelArray in
-    rw c.in-And.is (reduced-is _ _ law.bit_scalar_law (list_all (λ b. b)) _ _ _ _ _ _ law.bit_width_law (law.bit_rows_law c.args.array.now) c.reduce_and.ensures c.by_bits.ensures.bits)
+    rw c.in-And.is (reduced-is _ _ law.bit_scalar_law (list_all (λ b. b)) _ _ _ _ _ _ law.bit_width_law (law.bit_rows_law c.args.array.now) c.reduce_and.ensures c.unchanged.ensures.bits)
 
 pub returns-in-Or : goal.returns-in-Or
 returns-in-Or g c =
     let law = g.met.A.KernelArray in
-    rw c.in-Or.is (reduced-is _ _ law.bit_scalar_law (list_any (λ b. b)) _ _ _ _ _ _ law.bit_width_law (law.bit_rows_law c.args.array.now) c.reduce_or.ensures c.by_bits-in-Or.ensures.bits)
+    rw c.in-Or.is (reduced-is _ _ law.bit_scalar_law (list_any (λ b. b)) _ _ _ _ _ _ law.bit_width_law (law.bit_rows_law c.args.array.now) c.reduce_or.ensures c.unchanged-in-Or.ensures.bits)
 
 pub returns-in-Xor : goal.returns-in-Xor
 returns-in-Xor g c =
     let law = g.met.A.KernelArray in
-    rw c.in-Xor.is (reduced-is _ _ law.bit_scalar_law is_odd _ _ _ _ _ _ law.bit_width_law (law.bit_rows_law c.args.array.now) c.reduce_xor.ensures c.by_bits-in-Xor.ensures.bits)
+    rw c.in-Xor.is (reduced-is _ _ law.bit_scalar_law is_odd _ _ _ _ _ _ law.bit_width_law (law.bit_rows_law c.args.array.now) c.reduce_xor.ensures c.unchanged-in-Xor.ensures.bits)
 
 pub returns-in-Least : goal.returns-in-Least
 returns-in-Least g c =

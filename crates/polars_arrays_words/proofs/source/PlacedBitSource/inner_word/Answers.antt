@@ -3,4 +3,4 @@ use Rattle.polars_arrays_words.proofs.SingleBits.{word-joined}
 use Rattle.polars_arrays_words.proofs.source.PlacedBitSource.inner_word.Goals as goal
 
 pub returns : goal.returns
-returns c = word-joined c.args.self.now.words.now c.args.self.now.by c.args.k _ _ _ c.args.self.now.within_word refl refl c.join_from.ensures
+returns c = word-joined c.args.self.now.words.now c.args.self.now.by c.args.k _ _ _ c.args.self.now.within_word refl refl c.bits_from.ensures

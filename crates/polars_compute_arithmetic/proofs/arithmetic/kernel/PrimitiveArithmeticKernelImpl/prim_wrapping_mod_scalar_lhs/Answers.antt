@@ -7,6 +7,6 @@ use Rattle.polars_compute_arithmetic.proofs.arithmetic.kernel.PrimitiveArithmeti
 
 pub returns-clause-answers : goal.returns-clause-answers
 returns-clause-answers g c =
-    MatchResult-weaker c.divide_each.result c.divide_each.ensures.answers
+    MatchResult-weaker c.divide_by_each.result c.divide_by_each.ensures.answers
     (λ a h. answers-nonzero g.Self.Number.value g.Self.Bounded.low (bit_len g.Self.FixedWidth.width) (modulo (g.Self.Number.value c.args.lhs)) _ (λ x z p. p) c.args.rhs h.between a (has_answer-nonzero modulus (g.Self.Number.value c.args.lhs)) h.masks h.maps)
     (λ y m. m)

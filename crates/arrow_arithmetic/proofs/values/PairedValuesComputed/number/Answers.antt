@@ -1,6 +1,6 @@
 use Rattle.std.proofs.Common.{arith}
 use Rattle.arrow_arithmetic.proofs.Paired.{paired-at, paired-left, paired-right}
-use Rattle.arrow_arithmetic.proofs.values.PairsComputed.number.Goals as goal
+use Rattle.arrow_arithmetic.proofs.values.PairedValuesComputed.number.Goals as goal
 
 pub bounds-left-i : goal.bounds-left-i
 bounds-left-i g c = paired-left _ _ _ _ c.requires

@@ -1,6 +1,6 @@
 use Rattle.std.proofs.Common.{sym}
 use Rattle.std.proofs.lemmas.Simd.{length-zip2}
-use Rattle.polars_arrays_bits.proofs.slices.PairsTruthValues.len.Goals as goal
+use Rattle.polars_arrays_bits.proofs.slices.SlicePairsTruthValues.len.Goals as goal
 
 pub returns : goal.returns
 returns g c =

@@ -1,5 +1,5 @@
 use Rattle.std.proofs.lemmas.Result.{MatchResult-weaker}
-use Rattle.polars_compute_arithmetic.proofs.arithmetic.applied.divide_each.Goals as goal
+use Rattle.polars_compute_arithmetic.proofs.arithmetic.applied.divide_by_each.Goals as goal
 
 pub returns-clause-answers : goal.returns-clause-answers
 returns-clause-answers g c =

@@ -6,7 +6,7 @@ use Rattle.polars_arrays_bits.specs.declared.error.ComputeError.{ComputeError}
 use Rattle.polars_arrays_flat.specs.Row.{Int, Null, Row}
 use Rattle.polars_compute_slots.specs.Slots.{slot_state}
 use Rattle.polars_compute_slots.proofs.Sets.{finalised-null, finalised-present}
-use Rattle.polars_compute_slots.proofs.listing.list_set.Goals as goal
+use Rattle.polars_compute_slots.proofs.listing.list_seen.Goals as goal
 
 -- what the exits of both `?` return
 refused : {X : Type 0} (P : X → Type 0) (r : Result X ComputeError) → IsErrAnd r IsMemory → MatchResult r P IsMemory

@@ -1,7 +1,7 @@
 use Rattle.std.proofs.Common.{◌+◌}
 use Rattle.polars_arrays_words.specs.Bits.{bit_of}
 use Rattle.polars_arrays_words.proofs.TwoFolds.{word-folded-twos}
-use Rattle.polars_arrays_words.proofs.folds.PairsBitSource.word.Goals as goal
+use Rattle.polars_arrays_words.proofs.folds.BitPairsBitSource.word.Goals as goal
 
 pub returns : goal.returns
 returns c =

@@ -1,6 +1,6 @@
 use Rattle.std.proofs.Common.{sym}
 use Rattle.std.proofs.lemmas.Simd.{length-zip2}
-use Rattle.arrow_arithmetic.proofs.values.PairsComputed.count.Goals as goal
+use Rattle.arrow_arithmetic.proofs.values.PairedValuesComputed.count.Goals as goal
 
 pub returns : goal.returns
 returns g c =

@@ -1,6 +1,6 @@
 use Rattle.std.proofs.Common.{arith}
 use Rattle.polars_arrays_bits.proofs.Pairs.{left_place, right_place, pair_at}
-use Rattle.polars_arrays_bits.proofs.slices.PairsTruthValues.value.Goals as goal
+use Rattle.polars_arrays_bits.proofs.slices.SlicePairsTruthValues.value.Goals as goal
 
 pub bounds-left-i : goal.bounds-left-i
 bounds-left-i g c = left_place _ _ _ _ c.requires

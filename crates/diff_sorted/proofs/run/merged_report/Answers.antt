@@ -4,7 +4,7 @@ use Rattle.std.specs.Borrow.{Bor}
 use Rattle.std.specs.Prelude.{ℕ, List}
 use Rattle.diff_columns.specs.declared.error.Side.TheVariants.{Left, Right}
 use Rattle.diff_sorted.proofs.FaultLemmas.{merge_fault, text_fault, told_whole}
-use Rattle.diff_sorted.proofs.run.told_of.Goals as goal
+use Rattle.diff_sorted.proofs.run.merged_report.Goals as goal
 
 pub returns-in_err-first-clause-told : goal.returns-in_err-first-clause-told
 returns-in_err-first-clause-told g c =
