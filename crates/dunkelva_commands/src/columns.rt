@@ -10,7 +10,7 @@ use polars_arrays_flat::byte_rows::ByteRows;
 use std::alloc::Global;
 
 /// The bytes that commonly separate fields.
-const DELIMITERS: &[u8] = b",;\t|";
+const DELIMITERS: &[u8] = b",;\t|\x01";
 
 /// Returns a list of the first names, followed by the number of the remaining ones.
 fn list_of<N: ByteRows>(alloc: Global, names: &N) -> Result<String> {
@@ -59,6 +59,9 @@ fn other_delimiter<N: ByteRows>(names: &N, delimiter: u8) -> Option<char> {
 /// Returns a hint that asks whether `other` is the delimiter of a file that was read with
 /// `delimiter`. Returns `None` if an allocation fails.
 fn question_about_delimiter(alloc: Global, other: char, delimiter: u8) -> Option<String> {
+    if other == '\u{1}' {
+        return String::from_str(alloc, "is the byte 1 the --delimiter? It is \\x01.").ok();
+    }
     if delimiter == b',' {
         return format!(in alloc; "is {other:?} the --delimiter?").ok();
     }

@@ -16,7 +16,7 @@ use dunkelva_messages::hints::{explained, refuse_not_text};
 use dunkelva_messages::trouble;
 use dunkelva_options::command::command;
 use dunkelva_options::config::{Config, config_for, joined, named_files, with_file};
-use dunkelva_options::refusals::{advice_for, without_tips};
+use dunkelva_options::refusals::{advice_for, reason_in, without_tip};
 use dunkelva_settings::keys::{Keys, keys_of};
 use dunkelva_settings::kinds::{
     hold_documents, refuse_document_options, refuse_table_options, refuse_two_formats,
@@ -63,11 +63,12 @@ fn diff_by_names(
         format: format_of(matches),
         colored: is_colored(rt, matches),
     };
+    let is_said = matches.contains_id("input");
     if matches.get_flag("sorted") {
         refuse_unsorted(matches)?;
-        return compare_named(rt, left, right, Task::Sorted(&options), target);
+        return compare_named(rt, left, right, is_said, Task::Sorted(&options), target);
     }
-    compare_named(rt, left, right, Task::Tables(&options), target)
+    compare_named(rt, left, right, is_said, Task::Tables(&options), target)
 }
 
 /// Compares two CSV files with the options in `matches`. Writes the report to the target, and
@@ -108,7 +109,7 @@ fn diff_by_paths(
         format: format_of(matches),
         colored: is_colored(rt, matches),
     };
-    let status = compare_named(rt, left, right, Task::Documents(&options), target)?;
+    let status = compare_named(rt, left, right, true, Task::Documents(&options), target)?;
     warn_of_unknown(rt, matches, keys, rules, left, right);
     Ok(status)
 }
@@ -140,7 +141,7 @@ fn diff(rt: &HostRuntime, matches: &ArgMatches<'_>, config: &Config) -> Result<u
     }
     refuse_own_target(rt, &[left, right], target)?;
     refuse_two_formats(rt, matches, left, right)?;
-    if hold_documents(matches, left, right)? {
+    if hold_documents(rt, matches, left, right)? {
         return diff_documents(rt, matches, (left, right), target);
     }
     diff_tables(rt, matches, (left, right), target)
@@ -163,14 +164,16 @@ fn run_matches(rt: &HostRuntime, matches: &ArgMatches<'_>, config: &Config) -> R
     }
 }
 
-/// Prints an error of the command line on standard error, followed by advice if there is some.
+/// Prints an error of the command line on standard error. If there is advice, it stands in place of
+/// the usage.
 fn print_reason(rt: &HostRuntime, words: &[&str], error: &clap::Error) -> Result<()> {
-    let advice = advice_for(rt, words, error.kind());
     let text = format!(in rt.alloc(); "{error}")?;
-    let text = without_tips(rt.alloc(), &text, advice.is_some())?;
-    eprint!(rt; "{text}")?;
-    if let Some(advice) = advice {
-        eprintln!(rt; "dunkelva: {advice}")?;
+    match advice_for(rt, words, error.kind()) {
+        Some(advice) => {
+            let reason = reason_in(rt.alloc(), &text)?;
+            eprintln!(rt; "{reason}dunkelva: {advice}")?;
+        }
+        None => eprint!(rt; "{}", without_tip(rt.alloc(), &text)?)?,
     }
     Ok(())
 }

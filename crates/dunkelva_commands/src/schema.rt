@@ -1,6 +1,7 @@
 //! The command `dunkelva schema FILE`, which prints the schema of a file.
 
 use crate::outputs::refuse_own_output;
+use crate::tasks::open_for;
 use crate::trouble::{csv_trouble, schema_trouble};
 use clap::ArgMatches;
 use diff_csv::options::CsvOptions;
@@ -58,7 +59,7 @@ fn schema_text(
     file: &str,
     options: CsvOptions,
 ) -> Result<Vec<u8>> {
-    let reader = open(rt, file, false)?;
+    let reader = open_for(rt, file, false, matches.contains_id("input"))?;
     let mut text = Vec::new(rt.alloc());
     let (name, null, form) = (file.as_bytes(), null_in(matches), form_in(matches));
     match push_schema_of(rt.alloc(), &mut text, name, reader, options, null, form) {
@@ -72,7 +73,7 @@ fn schema_text(
 pub(crate) fn show_schema(rt: &HostRuntime, matches: &ArgMatches<'_>) -> Result<u8> {
     let file = matches.get_str("file").unwrap_or("-");
     refuse_own_output(rt, &[file])?;
-    if hold_documents(matches, file, file)? {
+    if hold_documents(rt, matches, file, file)? {
         let text = documents_text(rt, matches, file)?;
         return print_text(rt, &text, 0);
     }

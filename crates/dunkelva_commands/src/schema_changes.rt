@@ -2,6 +2,7 @@
 
 use crate::outputs::refuse_own_output;
 use crate::schema::{form_in, print_text};
+use crate::tasks::open_for;
 use crate::trouble::{csv_trouble, schema_trouble};
 use clap::ArgMatches;
 use diff_csv::options::CsvOptions;
@@ -30,7 +31,7 @@ fn columns_in(
     options: CsvOptions,
     has_stdin: bool,
 ) -> Result<TableSchema> {
-    let reader = open(rt, file, has_stdin)?;
+    let reader = open_for(rt, file, has_stdin, matches.contains_id("input"))?;
     match read_schema(rt.alloc(), reader, options, null_in(matches)) {
         Ok(schema) => Ok(schema),
         Err(error) => Err(csv_trouble(&error, options).context(file)),
@@ -151,7 +152,7 @@ pub(crate) fn compare_schemas(
     }
     refuse_own_output(rt, &[left, right])?;
     let has_stdin = left == "-" || right == "-";
-    if hold_documents(matches, left, right)? {
+    if hold_documents(rt, matches, left, right)? {
         return compare_paths(rt, matches, left, right, has_stdin);
     }
     compare_columns(rt, matches, left, right, has_stdin)

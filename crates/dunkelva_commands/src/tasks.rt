@@ -296,12 +296,29 @@ fn compare(
     }
 }
 
+/// Opens an input. Reads of it fail if it begins like a JSON document, unless it may.
+pub(crate) fn open_for(
+    rt: &HostRuntime,
+    name: &str,
+    has_stdin: bool,
+    may_be_documents: bool,
+) -> Result<Source> {
+    let source = open(rt, name, has_stdin)?;
+    if may_be_documents {
+        Ok(source)
+    } else {
+        Ok(source.refusing_documents())
+    }
+}
+
 /// Opens the two named inputs, compares them, writes the report to the target, and returns the exit
-/// status. The name `-` is standard input. Fails if both inputs are standard input.
+/// status. The name `-` is standard input. Fails if both inputs are standard input, and if one of
+/// them begins like a JSON document, unless `may_be_documents` is true.
 pub(crate) fn compare_named(
     rt: &HostRuntime,
     left: &str,
     right: &str,
+    may_be_documents: bool,
     task: Task<'_>,
     target: Target<'_>,
 ) -> Result<u8> {
@@ -310,8 +327,8 @@ pub(crate) fn compare_named(
     }
     let has_standard = left == "-" || right == "-";
     let names = (left, right);
-    let left = open(rt, left, has_standard)?;
-    let right = open(rt, right, has_standard)?;
+    let left = open_for(rt, left, has_standard, may_be_documents)?;
+    let right = open_for(rt, right, has_standard, may_be_documents)?;
     match compare(rt, left, right, names, task, target) {
         Ok(status) => Ok(status),
         Err(error) => Err(explained(rt, error, &[names.0, names.1])),

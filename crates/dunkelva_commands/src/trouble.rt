@@ -15,13 +15,14 @@ use document_run::error::DocumentError;
 use document_run::options::DocumentOptions;
 use dunkelva_messages::error::{About, Error, Lengths};
 use dunkelva_messages::files::open_again;
-use dunkelva_messages::hints::{begins_object, first_line_hint};
+use dunkelva_messages::hints::{begins_with, first_line_hint};
 use dunkelva_messages::members::members_hint;
 use dunkelva_messages::names::quoted;
 use dunkelva_messages::trouble;
 use dunkelva_settings::rules::{ABSOLUTE, RELATIVE};
 use json_tolerances::closeness::Margin;
 use schema_paths::error::SchemaError;
+use std::io::ErrorKind;
 
 /// Returns the name of the input on a side.
 fn file_of<'a>(names: (&'a str, &'a str), side: Side) -> &'a str {
@@ -52,7 +53,8 @@ fn other_length(line: u64, found: u64, expected: u64, csv: CsvOptions) -> Error 
 }
 
 /// Returns the error for a CSV file that can't be read. Records of different lengths and open
-/// quotes are marked as the cause, so that a hint can be added.
+/// quotes are marked as the cause, so that a hint can be added. A read fails with `InvalidData` if
+/// the file begins like a JSON document.
 pub(crate) fn csv_trouble(cause: &CsvError, csv: CsvOptions) -> Error {
     match cause {
         CsvError::Length {
@@ -60,11 +62,15 @@ pub(crate) fn csv_trouble(cause: &CsvError, csv: CsvOptions) -> Error {
             expected,
             found,
         } => other_length(*line, *found, *expected, csv).about(About::Lengths(Lengths {
+            line: *line,
             expected: *expected,
             found: *found,
             delimiter: csv.delimiter,
         })),
         CsvError::OpenQuote { .. } => trouble!("{cause}").about(About::Records),
+        CsvError::Read { cause } if cause.kind() == ErrorKind::InvalidData => trouble!(
+            "it looks like JSON lines: give --input ndjson, or --input csv if it is CSV"
+        ),
         other => trouble!("{other}"),
     }
 }
@@ -93,7 +99,7 @@ fn no_key(rt: &HostRuntime, file: &str, key: usize, options: &Options<'_>) -> Er
     if open_again(rt, file).is_none() {
         return error.hint(UNSEEN);
     }
-    if begins_object(rt, file) {
+    if begins_with(rt, file, b'{') {
         return error.about(About::Records);
     }
     if is_empty(rt, file) {
@@ -219,7 +225,7 @@ fn name_twice(rt: &HostRuntime, file: &str, column: usize, options: &Options<'_>
     let number = column.saturating_add(1);
     let error = trouble!("column {number} has the name of an earlier column");
     match column_name(rt, file, options.csv, column) {
-        Some(_) if begins_object(rt, file) => error.about(About::Records),
+        Some(_) if begins_with(rt, file, b'{') => error.about(About::Records),
         Some(name) => error.hint(quoted(&name)),
         None => error,
     }

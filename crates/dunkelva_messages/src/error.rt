@@ -14,6 +14,8 @@ const NAME_ROOM: usize = 4096;
 /// The number of fields that a record has, and the number that it should have.
 #[derive(Clone, Copy)]
 pub struct Lengths {
+    /// The line at which the record begins. The first line is 1.
+    pub line: u64,
     /// The number of fields of the first record. All records should have as many.
     pub expected: u64,
     /// The number of fields of the record.

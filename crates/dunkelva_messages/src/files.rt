@@ -1,23 +1,65 @@
 //! The input files.
 
 use crate::error::Result;
-use std::io::{Read, StdinLock};
+use std::io::{ErrorKind, Read, StdinLock};
 use std::os::fd::AsRawFd;
 use std::{fs, io};
 
-/// An open input.
+/// A file or standard input.
 #[derive(Drop)]
-pub enum Source {
-    /// A file.
+enum Input {
     File(fs::File),
-    /// Standard input.
     Standard(StdinLock<'static>),
 }
 
+/// How much of a CSV input was found to begin like a JSON document.
+#[derive(Clone, Copy)]
+enum Start {
+    /// Nothing was read.
+    Nothing,
+    /// A `{`, and perhaps blanks, were read.
+    Brace,
+    /// The input does not begin like a JSON document, or may do so.
+    Over,
+}
+
+impl Start {
+    /// Returns what is known of an input after `bytes` of it were read. Returns `None` if it begins
+    /// with `{` and `"`, which may have blanks between them.
+    fn after(self, bytes: &[u8]) -> Option<Start> {
+        let mut start = self;
+        for byte in bytes {
+            start = match (start, *byte) {
+                (Start::Nothing, b'{') => Start::Brace,
+                (Start::Brace, b' ' | b'\t') => Start::Brace,
+                (Start::Brace, b'"') => return None,
+                _ => return Some(Start::Over),
+            };
+        }
+        Some(start)
+    }
+}
+
+/// An open input.
+#[derive(Drop)]
+pub struct Source {
+    input: Input,
+    start: Start,
+}
+
 impl Source {
+    /// Makes reads fail with `InvalidData` if the input begins like a JSON document. Nothing may
+    /// have been read yet.
+    pub fn refusing_documents(self) -> Source {
+        Source {
+            start: Start::Nothing,
+            ..self
+        }
+    }
+
     /// Returns the number of bytes of a regular file, or `None` for any other input.
     pub fn size(&self) -> Option<u64> {
-        let Source::File(file) = self else {
+        let Input::File(file) = &self.input else {
             return None;
         };
         let data = file.metadata().ok()?;
@@ -29,11 +71,27 @@ impl Source {
     }
 }
 
-impl Read for Source {
+impl Read for Input {
     fn read(&mut self, buf: &mut [u8]) -> io::Result<usize> {
         match self {
-            Source::File(file) => file.read(buf),
-            Source::Standard(input) => input.read(buf),
+            Input::File(file) => file.read(buf),
+            Input::Standard(input) => input.read(buf),
+        }
+    }
+}
+
+impl Read for Source {
+    fn read(&mut self, buf: &mut [u8]) -> io::Result<usize> {
+        let count = self.input.read(buf)?;
+        if let Start::Over = self.start {
+            return Ok(count);
+        }
+        match self.start.after(buf.get(..count).unwrap_or(&[])) {
+            Some(start) => {
+                self.start = start;
+                Ok(count)
+            }
+            None => Err(io::Error::from(ErrorKind::InvalidData)),
         }
     }
 }
@@ -55,10 +113,15 @@ fn open_file(rt: &HostRuntime, name: &str, has_stdin: bool) -> Result<fs::File> 
 /// Opens an input. The name `-` is standard input. `has_stdin` is true if one of the inputs is
 /// standard input.
 pub fn open(rt: &HostRuntime, name: &str, has_stdin: bool) -> Result<Source> {
-    if name == "-" {
-        return Ok(Source::Standard(rt.reader()));
-    }
-    Ok(Source::File(open_file(rt, name, has_stdin)?))
+    let input = if name == "-" {
+        Input::Standard(rt.reader())
+    } else {
+        Input::File(open_file(rt, name, has_stdin)?)
+    };
+    Ok(Source {
+        input,
+        start: Start::Over,
+    })
 }
 
 /// Opens an input again that was read before. Returns `None` unless it is a regular file that can

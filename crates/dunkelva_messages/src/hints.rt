@@ -4,6 +4,7 @@ use crate::error::{About, Error, Lengths, Result};
 use crate::files::open_again;
 use crate::lines::{BLANKS, line_bytes};
 use crate::slips::slip_at;
+use std::fs;
 use std::io::Read;
 
 /// Returns a hint if the first bytes of a file show a known format that is not UTF-8 text, such as
@@ -18,6 +19,9 @@ fn what_begins(head: &[u8]) -> Option<&'static str> {
         [b'P', b'A', b'R', b'1'] => Some("it is Parquet: save it as CSV"),
         [0xff, 0xfe, ..] | [0xfe, 0xff, ..] => {
             Some("it is UTF-16: convert it, as in <(iconv -f UTF-16 -t UTF-8 FILE)")
+        }
+        [1.., 0, 1.., 0] => {
+            Some("it is UTF-16: convert it, as in <(iconv -f UTF-16LE -t UTF-8 FILE)")
         }
         _ => None,
     }
@@ -41,27 +45,28 @@ pub fn refuse_not_text(rt: &HostRuntime, file: &str) -> Result<()> {
     }
 }
 
-/// Returns whether the first byte of a regular file is `{`, as in a file of JSON documents. Returns
-/// false if the file can't be read again.
-pub fn begins_object(rt: &HostRuntime, file: &str) -> bool {
+/// Returns whether the first byte of a regular file is `byte`. Returns false if the file can't be
+/// read again.
+pub fn begins_with(rt: &HostRuntime, file: &str, byte: u8) -> bool {
     let Some(mut reader) = open_again(rt, file) else {
         return false;
     };
     let mut head = [0];
-    matches!(reader.read(&mut head), Ok(1)) && head == [b'{']
+    matches!(reader.read(&mut head), Ok(1)) && head == [byte]
 }
 
 /// Returns a hint if a regular file can't be read as CSV because it seems to have JSON documents.
 fn records_hint(rt: &HostRuntime, file: &str) -> Option<&'static str> {
-    begins_object(rt, file).then_some("it looks like JSON lines: give --input ndjson")
+    begins_with(rt, file, b'{').then_some("it looks like JSON lines: give --input ndjson")
 }
 
 /// The bytes that commonly separate fields, each with the hint for it.
-const DELIMITERS: [(char, &str); 4] = [
+const DELIMITERS: [(char, &str); 5] = [
     (';', "is ';' the --delimiter?"),
     ('\t', "is a tab the --delimiter? It is \\t"),
     ('|', "is '|' the --delimiter?"),
     (',', "is ',' the --delimiter?"),
+    ('\u{1}', "is the byte 1 the --delimiter? It is \\x01"),
 ];
 
 /// Returns the first line of a regular file, or `None` if it can't be read again or is not UTF-8.
@@ -109,6 +114,25 @@ fn fields_hint(delimiter: u8) -> &'static str {
     }
 }
 
+/// Returns a hint for a record with too many fields, from the line at which it begins in a regular
+/// file.
+fn record_hint(rt: &HostRuntime, file: &str, lengths: Lengths) -> &'static str {
+    let Some(bytes) = line_bytes(rt, file, lengths.line) else {
+        return fields_hint(lengths.delimiter);
+    };
+    let line = bytes.strip_suffix(b"\r").unwrap_or(&bytes);
+    if line.windows(2).any(|pair| pair == br#"\""#) {
+        return "it has quotes written as \\\": in CSV a quote is written twice";
+    }
+    if lengths.found == lengths.expected.saturating_add(1) && line.ends_with(&[lengths.delimiter]) {
+        return "it ends with a delimiter, and the first record does not";
+    }
+    if lengths.expected == 1 {
+        return "is line 1 a title? Leave it out, as in <(tail -n +2 FILE)";
+    }
+    fields_hint(lengths.delimiter)
+}
+
 /// Returns a hint for a file with records of different lengths, or `None` if none is known.
 fn lengths_hint(rt: &HostRuntime, file: &str, lengths: Lengths) -> Option<&'static str> {
     if let Some(hint) = records_hint(rt, file) {
@@ -122,7 +146,7 @@ fn lengths_hint(rt: &HostRuntime, file: &str, lengths: Lengths) -> Option<&'stat
     {
         return Some(question);
     }
-    (lengths.found > lengths.expected).then_some(fields_hint(lengths.delimiter))
+    (lengths.found > lengths.expected).then(|| record_hint(rt, file, lengths))
 }
 
 /// Returns a hint for a file of documents whose first line is not a document, or `None` if none is
@@ -181,13 +205,22 @@ fn with_hint(rt: &HostRuntime, error: Error) -> Error {
     }
 }
 
+/// Returns what an input is that can't be compared: a folder, or a file of a known format that is
+/// not UTF-8 text. Otherwise returns `None`.
+fn what_input_is(rt: &HostRuntime, name: &str) -> Option<&'static str> {
+    if name != "-" && fs::metadata(rt, name).ok()?.is_dir() {
+        return Some("it is a folder, not a file");
+    }
+    what_is(rt, name)
+}
+
 /// Returns the error to print for `error`, which occurred while `files` were compared. If one of
-/// the files has a known format that is not UTF-8 text, that becomes the error, unless `error` is
-/// about another file. Otherwise a hint is added to `error`, if one is known.
+/// the files is a folder, or has a known format that is not UTF-8 text, that becomes the error,
+/// unless `error` is about another file. Otherwise a hint is added to `error`, if one is known.
 pub fn explained(rt: &HostRuntime, error: Error, files: &[&str]) -> Error {
     for file in files {
         let is_of_other = error.file().is_some_and(|name| name != *file);
-        if let Some(what) = what_is(rt, file)
+        if let Some(what) = what_input_is(rt, file)
             && !is_of_other
         {
             return trouble!("{what}").context(file);

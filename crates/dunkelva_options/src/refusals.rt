@@ -33,46 +33,137 @@ fn format_advice(words: &[&str]) -> Option<&'static str> {
     None
 }
 
-/// Returns advice if the first argument is the name of a file instead of a command, and else
-/// `None`.
+/// Returns advice if the first argument seems to be the name of a file instead of a command, and
+/// else `None`: if there is such a file, or if another argument follows that is no option.
 fn command_advice(rt: &HostRuntime, words: &[&str]) -> Option<&'static str> {
     let first = words.get(1)?;
-    fs::metadata(rt, *first).ok()?;
+    let is_followed = words.get(2).is_some_and(|word| !word.starts_with('-'));
+    if !is_followed {
+        fs::metadata(rt, *first).ok()?;
+    }
     Some("to compare two files: dunkelva diff LEFT RIGHT")
 }
 
-/// The advice for an option of other programs that prints nothing.
-const STATUS_ALONE: &str = "for the status alone send what is printed to /dev/null";
+/// Advice on what to give in place of an option of another program.
+const STATUS: &str = "for the status alone send what is printed to /dev/null";
 
-/// The advice for an option of other programs that names a file for the report.
 const OUTPUT: &str = "the report is printed: write > FILE";
 
+const DELIMITER: &str = "for the delimiter give --delimiter";
+
+const DOCUMENTS: &str = "for JSON documents, one in each line, give --input ndjson";
+
+const KEY: &str = "for the key give --key";
+
+const ONLY: &str = "for the columns to compare give --only";
+
+const IGNORE: &str = "for columns to leave out give --ignore";
+
+const LIMIT: &str = "to print the first N differences give --limit N";
+
+const ALL: &str = "to print all differences give --limit 0";
+
+const COUNTS: &str = "for the counts alone give --summary";
+
+const TOLERANCE: &str = "for a tolerance give --tolerance COLUMN=BOUND";
+
+const RELATIVE: &str = "for a relative tolerance give --relative-tolerance COLUMN=BOUND";
+
+const TEXTS: &str = "texts are compared exactly, with case and blanks: convert the files first";
+
+const ORDER: &str = "rows may be in any order; the items of JSON arrays are compared in theirs";
+
+const ALIGNED: &str = "for aligned columns give --width N";
+
 /// Options of other programs, each with advice on what to give instead.
-const OTHERS: [(&str, &str); 8] = [
+const OTHERS: [(&str, &str); 15] = [
     ("--json", "for JSON give --format json"),
-    ("--quiet", STATUS_ALONE),
-    ("-q", STATUS_ALONE),
-    ("--sep", "for the delimiter give --delimiter"),
-    ("--separator", "for the delimiter give --delimiter"),
+    ("--quiet", STATUS),
+    ("-q", STATUS),
+    ("--sep", DELIMITER),
+    ("--separator", DELIMITER),
+    ("--delim", DELIMITER),
+    ("--tsv", "for tabs give --delimiter '\\t'"),
+    ("--csv", "for CSV give --input csv"),
+    ("--ndjson", DOCUMENTS),
+    ("--jsonl", DOCUMENTS),
+    (
+        "--header",
+        "the first record is the header unless --no-header is given",
+    ),
     (
         "--encoding",
         "files are compared as bytes: convert with iconv",
     ),
     ("--output", OUTPUT),
+    ("--out", OUTPUT),
     ("-o", OUTPUT),
 ];
 
 /// Options of other programs that `dunkelva schema` has no option for, each with advice on what to
 /// give `dunkelva diff` instead.
-const OTHERS_OF_DIFF: [(&str, &str); 9] = [
-    ("--id", "for the key give --key"),
-    ("--on", "for the key give --key"),
-    ("--columns", "for the columns to compare give --only"),
-    ("--fields", "for the columns to compare give --only"),
-    ("--exclude", "for columns to leave out give --ignore"),
-    ("--skip", "for columns to leave out give --ignore"),
-    ("--epsilon", "for a tolerance give --tolerance"),
-    ("--eps", "for a tolerance give --tolerance"),
+const OTHERS_OF_DIFF: [(&str, &str); 59] = [
+    ("--id", KEY),
+    ("--on", KEY),
+    ("--by", KEY),
+    ("--pk", KEY),
+    ("--primary", KEY),
+    ("--primary-key", KEY),
+    ("--keys", KEY),
+    ("--index", KEY),
+    ("--join", KEY),
+    ("--join-columns", KEY),
+    ("--columns", ONLY),
+    ("--fields", ONLY),
+    ("--select", ONLY),
+    ("--include", ONLY),
+    ("--cols", ONLY),
+    ("--exclude", IGNORE),
+    ("--skip", IGNORE),
+    ("--drop", IGNORE),
+    ("--ignore-columns", IGNORE),
+    ("--head", LIMIT),
+    ("--max", LIMIT),
+    ("--max-rows", LIMIT),
+    ("--rows", LIMIT),
+    ("-n", LIMIT),
+    ("--all", ALL),
+    ("--show-all", ALL),
+    ("--count", COUNTS),
+    ("--counts", COUNTS),
+    ("--stat", COUNTS),
+    ("--stats", COUNTS),
+    ("--brief", COUNTS),
+    ("--epsilon", TOLERANCE),
+    ("--eps", TOLERANCE),
+    ("--precision", TOLERANCE),
+    ("--round", TOLERANCE),
+    ("--abs-tol", TOLERANCE),
+    ("--abs_tol", TOLERANCE),
+    ("--atol", TOLERANCE),
+    ("--rel-tol", RELATIVE),
+    ("--rel_tol", RELATIVE),
+    ("--rtol", RELATIVE),
+    ("--ignore-case", TEXTS),
+    ("--case-insensitive", TEXTS),
+    ("-i", TEXTS),
+    ("--trim", TEXTS),
+    ("--strip", TEXTS),
+    ("--ignore-spaces", TEXTS),
+    ("--ignore-whitespace", TEXTS),
+    ("--ignore-all-space", TEXTS),
+    ("--ignore-space-change", TEXTS),
+    ("-w", TEXTS),
+    ("-b", TEXTS),
+    ("--ignore-order", ORDER),
+    ("--unordered", ORDER),
+    ("--side-by-side", ALIGNED),
+    ("-y", ALIGNED),
+    ("--align", ALIGNED),
+    (
+        "--no-color",
+        "for a report without colours give --color never",
+    ),
     (
         "--rename",
         "columns are not renamed: the two files have to have the same names",
@@ -122,6 +213,20 @@ fn hyphen_advice(alloc: Global, words: &[&str]) -> Option<String> {
     None
 }
 
+/// Returns advice if `--key` has two names in two arguments, and the second one is not the name of a
+/// file. Returns `None` if it has not, or if an allocation fails.
+fn list_advice(rt: &HostRuntime, words: &[&str]) -> Option<String> {
+    let at = words
+        .iter()
+        .position(|word| *word == "--key" || *word == "-k")?;
+    let rest = words.get(at..)?;
+    let (first, second) = (*rest.get(1)?, *rest.get(2)?);
+    if first.starts_with('-') || second.starts_with('-') || fs::metadata(rt, second).is_ok() {
+        return None;
+    }
+    format!(in rt.alloc(); "separate columns by commas: --key {first},{second}").ok()
+}
+
 /// Returns advice for the first argument that is an option of other programs, or has a single
 /// hyphen for two. Returns `None` if there is none, or an allocation fails.
 fn other_advice(alloc: Global, words: &[&str]) -> Option<String> {
@@ -156,27 +261,37 @@ pub fn advice_for(rt: &HostRuntime, words: &[&str], kind: ErrorKind) -> Option<S
     let advice = match kind {
         ErrorKind::InvalidSubcommand => command_advice(rt, words)?,
         ErrorKind::InvalidValue => format_advice(words)?,
-        ErrorKind::UnknownArgument => return other_advice(rt.alloc(), words),
+        ErrorKind::UnknownArgument => {
+            return other_advice(rt.alloc(), words).or(list_advice(rt, words));
+        }
         ErrorKind::MissingRequiredArgument => return needs_advice(rt.alloc(), words),
         _ => return None,
     };
     String::from_str(rt.alloc(), advice).ok()
 }
 
-/// Returns whether a line of an error is a misleading tip: the tip to pass an option as a value, or
-/// any tip if there is advice.
-fn misleads(line: &str, has_advice: bool) -> bool {
-    line.starts_with("  tip: to pass '") || has_advice && line.starts_with("  tip: ")
+/// Returns the text of a parser's error up to its first empty line. If there is advice, what follows
+/// could mislead.
+pub fn reason_in(alloc: Global, text: &str) -> Result<String, AllocError> {
+    let mut reason = String::new(alloc);
+    for line in text.lines() {
+        if line.is_empty() {
+            break;
+        }
+        reason.push_str(line)?;
+        reason.push_str("\n")?;
+    }
+    Ok(reason)
 }
 
-/// Returns the text of a parser's error without misleading tips. An empty line after an empty line
-/// is left out too.
-pub fn without_tips(alloc: Global, text: &str, has_advice: bool) -> Result<String, AllocError> {
+/// Returns the text of a parser's error without the tip to pass an option as a value. An empty line
+/// after an empty line is left out too.
+pub fn without_tip(alloc: Global, text: &str) -> Result<String, AllocError> {
     let mut kept = String::new(alloc);
     let mut is_behind_empty = false;
     for line in text.lines() {
         let is_doubled = is_behind_empty && line.is_empty();
-        if !misleads(line, has_advice) && !is_doubled {
+        if !line.starts_with("  tip: to pass '") && !is_doubled {
             kept.push_str(line)?;
             kept.push_str("\n")?;
             is_behind_empty = line.is_empty();

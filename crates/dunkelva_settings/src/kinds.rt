@@ -2,7 +2,7 @@
 
 use clap::ArgMatches;
 use dunkelva_messages::error::Result;
-use dunkelva_messages::hints::refuse_not_text;
+use dunkelva_messages::hints::{begins_with, refuse_not_text};
 use dunkelva_messages::trouble;
 use dunkelva_options::options::{GoesWith, Takes, options};
 
@@ -26,15 +26,26 @@ fn names_documents(name: &str) -> bool {
     names_lines(name) || has_extension(name, ".json")
 }
 
+/// Returns whether an input has no name that could say its format: standard input, or a pipe of the
+/// shell, as `<(..)` makes it.
+fn is_nameless(name: &str) -> bool {
+    name == "-" || name.starts_with("/dev/fd/") || name.starts_with("/proc/self/fd/")
+}
+
 /// Fails if a file name ends with `.json`. Such a file may have a document in each line, or a
 /// single document.
-fn refuse_json(name: &str) -> Result<()> {
-    if has_extension(name, ".json") {
-        return Err(trouble!(
-            "give --input ndjson where each line is a JSON document, as jq -c makes them"
-        ).context(name));
+fn refuse_json(rt: &HostRuntime, name: &str) -> Result<()> {
+    if !has_extension(name, ".json") {
+        return Ok(());
     }
-    Ok(())
+    let error = if begins_with(rt, name, b'[') {
+        trouble!(
+            "it is a list: make a line of each item, as jq -c '.[]' does, and give --input ndjson"
+        )
+    } else {
+        trouble!("give --input ndjson where each line is a JSON document, as jq -c makes them")
+    };
+    Err(error.context(name))
 }
 
 /// Returns whether the name of a file says that it is a CSV file.
@@ -75,16 +86,21 @@ pub fn refuse_two_formats(
 
 /// Returns whether the two files have documents instead of tables. `--input` decides. Without it,
 /// the file names decide: both have to end with `.ndjson` or `.jsonl`, or neither. Standard input
-/// has the kind of the other file. Fails if a name ends with `.json`, or if only one of two file
-/// names says that the file has documents.
-pub fn hold_documents(matches: &ArgMatches<'_>, left: &str, right: &str) -> Result<bool> {
+/// and a pipe of the shell have the kind of the other file. Fails if a name ends with `.json`, or if
+/// only one of two file names says that the file has documents.
+pub fn hold_documents(
+    rt: &HostRuntime,
+    matches: &ArgMatches<'_>,
+    left: &str,
+    right: &str,
+) -> Result<bool> {
     if let Some(input) = matches.get_str("input") {
         return Ok(input == "ndjson");
     }
-    refuse_json(left)?;
-    refuse_json(right)?;
+    refuse_json(rt, left)?;
+    refuse_json(rt, right)?;
     let (in_left, in_right) = (names_lines(left), names_lines(right));
-    if in_left != in_right && left != "-" && right != "-" {
+    if in_left != in_right && !is_nameless(left) && !is_nameless(right) {
         let (lines, other) = if in_left {
             (left, right)
         } else {
@@ -133,11 +149,11 @@ pub fn refuse_document_options(matches: &ArgMatches<'_>) -> Result<()> {
 }
 
 /// Returns the delimiter of CSV files if `--delimiter` is not given: a tab if a file name ends with
-/// `.tsv`, and else a comma. Standard input has the delimiter of the other file. Fails if only one
-/// of two file names ends with `.tsv`.
+/// `.tsv`, and else a comma. Standard input and a pipe of the shell have the delimiter of the other
+/// file. Fails if only one of two file names ends with `.tsv`.
 pub(crate) fn usual_delimiter(left: &str, right: &str) -> Result<u8> {
     let (in_left, in_right) = (has_extension(left, ".tsv"), has_extension(right, ".tsv"));
-    if in_left != in_right && left != "-" && right != "-" {
+    if in_left != in_right && !is_nameless(left) && !is_nameless(right) {
         return Err(trouble!(
             "convert one of the files, or give --delimiter: by their names {left:?} and {right:?} \
              have two delimiters, and both are read with one"

@@ -101,16 +101,29 @@ impl<'a> Names<'a> {
     }
 }
 
-/// Parses a delimiter: a single byte, or `\t` for a tab. Fails for other texts, and if the byte is
-/// a quote or ends lines.
+/// Parses a byte: a single character of ASCII, `\t` for a tab, or `\x` and two hexadecimal digits.
+/// Returns `None` for other texts.
+fn byte_of(text: &str) -> Option<u8> {
+    if let Some(digits) = text.strip_prefix("\\x")
+        && digits.len() == 2
+    {
+        return u8::from_str_radix(digits, 16).ok();
+    }
+    match text.as_bytes() {
+        b"\\t" => Some(b'\t'),
+        [byte] => Some(*byte),
+        _ => None,
+    }
+}
+
+/// Parses a delimiter: a byte below 128, as `byte_of` does. Fails for other texts, and if the byte
+/// is a quote or ends lines.
 fn delimiter_of(text: &str) -> Result<u8> {
-    let byte = match text.as_bytes() {
-        b"\\t" => b'\t',
-        [byte] => *byte,
-        _ => return Err(trouble!(
-            "--delimiter takes one byte, or \\t for a tab, not {}",
+    let Some(byte) = byte_of(text).filter(u8::is_ascii) else {
+        return Err(trouble!(
+            "--delimiter takes one byte, as \\t for a tab or \\x01 for the byte 1, not {}",
             quoted(text)
-        )),
+        ));
     };
     if !is_delimiter(byte) {
         return Err(trouble!(

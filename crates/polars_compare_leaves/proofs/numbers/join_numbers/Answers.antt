@@ -1,4 +1,4 @@
-use Rattle.std.proofs.Common.{◌∙◌, List, Bool, ℕ, length, MatchResult, sym, ap₂, subst}
+use Rattle.std.proofs.Common.{◌∙◌, List, Bool, Option, ℕ, length, MatchResult, sym, ap₂, subst}
 use Rattle.std.specs.Simd.Lanes.{zip2}
 use Rattle.polars_arrays_bits.specs.Errors.{IsMemory}
 use Rattle.polars_arrays_flat.specs.Row.{Int}
