@@ -12,13 +12,13 @@ pub join_masks-requires-clause-left : goal.join_masks-requires-clause-left
 join_masks-requires-clause-left g c =
     let long = ap₂ (λ xs ys. length (zip2 (g.E.Comparison.holds c.args.comparison.now) xs ys)) c.values.ensures c.values-2.ensures
     ∙ length-zip2 (g.E.Comparison.holds c.args.comparison.now) c.args.left.now.values c.args.right.now.values c.requires.one_length in
-    subst (λ (v : Option (List Bool)). HasBits _ v) (sym c.bits.ensures) (subst (λ (n : ℕ). HasBits n c.args.left_mask.now) (sym long) c.requires.left_bits)
+    subst (λ (v : Option (List Bool)). HasBits (length (zip2 (g.E.Comparison.holds c.args.comparison.now) c.values.result.now c.values-2.result.now)) v) (sym c.bits.ensures) (subst (λ (n : ℕ). HasBits n c.args.left_mask.now) (sym long) c.requires.left_bits)
 
 pub join_masks-requires-clause-right : goal.join_masks-requires-clause-right
 join_masks-requires-clause-right g c =
     let long = ap₂ (λ xs ys. length (zip2 (g.E.Comparison.holds c.args.comparison.now) xs ys)) c.values.ensures c.values-2.ensures
     ∙ length-zip2 (g.E.Comparison.holds c.args.comparison.now) c.args.left.now.values c.args.right.now.values c.requires.one_length in
-    subst (λ (v : Option (List Bool)). HasBits _ v) (sym c.bits-2.ensures) (subst (λ (n : ℕ). HasBits n c.args.right_mask.now) (sym long) c.requires.right_bits)
+    subst (λ (v : Option (List Bool)). HasBits (length (zip2 (g.E.Comparison.holds c.args.comparison.now) c.values.result.now c.values-2.result.now)) v) (sym c.bits-2.ensures) (subst (λ (n : ℕ). HasBits n c.args.right_mask.now) (sym long) c.requires.right_bits)
 
 pub returns : goal.returns
 returns g c =
