@@ -20,7 +20,7 @@ fn what_begins(head: &[u8]) -> Option<&'static str> {
         [0xff, 0xfe, ..] | [0xfe, 0xff, ..] => {
             Some("it is UTF-16: convert it, as in <(iconv -f UTF-16 -t UTF-8 FILE)")
         }
-        [1.., 0, 1.., 0] => {
+        [(1..), 0, (1..), 0] => {
             Some("it is UTF-16: convert it, as in <(iconv -f UTF-16LE -t UTF-8 FILE)")
         }
         _ => None,
@@ -121,7 +121,7 @@ fn record_hint(rt: &HostRuntime, file: &str, lengths: Lengths) -> &'static str {
         return fields_hint(lengths.delimiter);
     };
     let line = bytes.strip_suffix(b"\r").unwrap_or(&bytes);
-    if line.windows(2).any(|pair| pair == br#"\""#) {
+    if line.windows(2).any(|pair| pair == br#"\""#.as_slice()) {
         return "it has quotes written as \\\": in CSV a quote is written twice";
     }
     if lengths.found == lengths.expected.saturating_add(1) && line.ends_with(&[lengths.delimiter]) {
