@@ -20,7 +20,7 @@ use dunkelva_messages::hints::explained;
 use dunkelva_messages::trouble;
 use dunkelva_settings::words::Target;
 use std::alloc::Global;
-use std::io::{ErrorKind, Write};
+use std::io::{ErrorKind, IsTerminal, Write};
 use std::{fs, io};
 
 /// The result of a comparison that ended without an error.
@@ -61,6 +61,27 @@ pub(crate) enum Task<'a> {
     Sorted(&'a Options<'a>),
     /// Files of JSON documents, one document in each line.
     Documents(&'a DocumentOptions<'a>),
+}
+
+impl Task<'_> {
+    /// Returns whether rows or documents are matched by position, since no key is given.
+    fn is_by_position(self) -> bool {
+        match self {
+            Task::Tables(options) | Task::Sorted(options) => options.choice.keys.is_empty(),
+            Task::Documents(options) => options.keys.is_empty(),
+        }
+    }
+}
+
+/// Prints advice on standard error if that is a terminal, and rows that were matched by position
+/// differ.
+fn advise(rt: &HostRuntime, task: Task<'_>, ending: Ending) {
+    if let Ending::Different = ending
+        && task.is_by_position()
+        && rt.stderr().is_terminal()
+    {
+        let _ = eprintln!(rt; "dunkelva: rows were matched by position; --key matches them by key");
+    }
 }
 
 /// Creates an input with a name. The bytes read from it are reported to `progress`.
@@ -291,7 +312,10 @@ fn compare(
     let ending = compared(rt, left, right, names, &progress, task, target);
     progress.erase();
     match ending {
-        Ok(ending) => Ok(ending.status()),
+        Ok(ending) => {
+            advise(rt, task, ending);
+            Ok(ending.status())
+        }
         Err(error) => Err(error),
     }
 }
