@@ -287,7 +287,7 @@ static const char *fault_of(const ran *it) {
 static size_t fault_length(const char *fault) {
     static const char *const hints[] = {": the columns are ", ": its columns are shown only ", ": did you mean ",
                                         ": is ", ": it looks like JSON lines", ": the file ", ": the line is empty",
-                                        ": JSON has ", ": \"", ": the document has ",
+                                        ": JSON has ", ": \"", ": the document has ", ": it has quotes written as ", ": it ends with a delimiter, ",
                                         ": documents nest ", ": paths are written "};
     size_t length = strcspn(fault, "\n");
     for (size_t it = 0; it < sizeof hints / sizeof *hints; it++) {
