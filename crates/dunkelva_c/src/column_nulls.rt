@@ -26,8 +26,9 @@ struct Nulls {
     count: usize,
 }
 
-// Returns the null rows of a part by its validity alone: a row is null if its bit is 0. Fails with
-// `Parts` if there are fewer bits than rows, and with `Memory` if an allocation fails.
+// Returns the null rows of a part by its validity alone: a row is null if its bit is 0. Without a
+// validity no row is null. Fails with `Parts` if a row's bit lies past the end of the validity, and
+// with `Memory` if an allocation fails.
 fn masked(alloc: Global, part: &Part<'_>) -> Result<Nulls, Fault>
     ensures bits { IfOk result (λ nulls. nulls.bits
         ≡ masked_bits part.now.rows (present_in part.now)) }

@@ -132,7 +132,7 @@ fn push_values<T: NativeType + Display>(
     Ok(())
 }
 
-// Returns a clone that shares its values.
+// Makes the stored values of a clone shared, and returns the clone as text.
 fn share<T: NativeType + Display>(
     alloc: Global,
     array: &PrimitiveArray<T>,

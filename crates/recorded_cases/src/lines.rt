@@ -59,9 +59,9 @@ fn answer_status(alloc: Global, words: &mut Words) -> Result<String, Fault> {
     exit_status(&outcome).to_string(alloc).map_err(Fault::from)
 }
 
-/// Returns the message of a run that stopped.
+/// Returns the message of a run that stopped by the error that the next word names.
 fn answer_fault(alloc: Global, words: &mut Words) -> Result<String, Fault> {
-    let fault = read_fault(words.read()?)?;
+    let fault = run_error_named(words.read()?)?;
     fault_text(&fault).to_string(alloc).map_err(Fault::from)
 }
 
@@ -179,7 +179,7 @@ fn command_name(command: Command) -> &'static str {
 fn read_outcome(words: &mut Words) -> Result<Result<Report, RunError>, Fault> {
     match words.read()? {
         "lines" => read_report(words).map(Ok),
-        word => read_fault(word).map(Err),
+        word => run_error_named(word).map(Err),
     }
 }
 
@@ -193,8 +193,9 @@ fn read_report(words: &mut Words) -> Result<Report, Fault> {
     Ok(Report { lines, refused })
 }
 
-/// Returns the fault of a run by name.
-fn read_fault(word: &str) -> Result<RunError, Fault> {
+/// Returns the error of a run that a word names: `read`, `write` or `memory`. Any other word is the
+/// error `Word`.
+fn run_error_named(word: &str) -> Result<RunError, Fault> {
     match word {
         "read" => Ok(RunError::Read),
         "write" => Ok(RunError::Write),

@@ -33,7 +33,8 @@ fn read_relation(words: &mut Words) -> Result<Relation, Fault> {
     }
 }
 
-/// Reads raw bits and two validities, and returns the bits joined.
+/// Reads a relation, raw bits and two validities, and returns the text of the bits that
+/// `join_masks` makes of them. The error is `Case`, if a validity has another length than the bits.
 pub fn ask(alloc: Global, join: Join, words: &mut Words) -> Result<String, Fault> {
     let relation = read_relation(words)?;
     let raw = read_bits(alloc, words.read()?)?;

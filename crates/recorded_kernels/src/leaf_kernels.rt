@@ -14,7 +14,8 @@ use std::alloc::Global;
 pub trait SeenKernel: LeafKernel {
     fn new() -> Self;
 
-    /// Returns the count of its counter.
+    /// Returns the count of the kernel's counter, including the count that `lent_counter` begins
+    /// with.
     fn seen(&self) -> u64;
 }
 

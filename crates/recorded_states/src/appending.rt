@@ -23,7 +23,8 @@ use recorded_text::store::Store;
 use recorded_text::words::Words;
 use std::alloc::Global;
 
-/// Returns the text of the state given by words.
+/// Returns the text of a new state after `append_all`. The words give the range of the state, and
+/// then name the arrays to append. The error is `Case`, if the state does not accept one.
 pub fn write_all<N: NewStates>(
     alloc: Global,
     store: &Store,
