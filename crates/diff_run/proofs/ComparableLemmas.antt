@@ -6,7 +6,7 @@ use Rattle.std.specs.Borrow.{Bor}
 use Rattle.diff_columns.specs.Names.{Names}
 use Rattle.diff_numbers.specs.Rows.{comparable_row}
 use Rattle.diff_report.specs.declared.sides.Comparables.{Comparables}
-use Rattle.diff_run.specs.Comparables.{AreBothBy, AreComparables, AreExact, AreTolerant, HaveFew, IsComparedFault, IsNumberFault, IsToleranceFault, Texts, counted}
+use Rattle.diff_run.specs.Comparables.{AreBothBy, AreComparables, AreExact, AreTolerant, HaveFew, IsComparedFault, IsNumberFault, IsToleranceFault, Texts, numeric_columns}
 use Rattle.diff_run.specs.declared.error.RunError.{RunError}
 use Rattle.diff_run.specs.declared.error.RunError.TheVariants as error
 use Rattle.diff_run.specs.declared.inputs.Both.{Both}
@@ -24,26 +24,26 @@ pub exact_none : (texts : Texts) (names : Names) (both : Both) → texts ≡ Non
 exact_none texts names both none = rw none (record { left = refl; right = refl; large = tt })
 
 -- where numbers count
-pub exact_tables : (texts : Texts) (lists : Bor (List (Bor (List ℕ)))) (names : Names) (both : Both) (tables : Comparables) → texts ≡ Some lists → AreBothBy (counted texts names) both tables
+pub exact_tables : (texts : Texts) (lists : Bor (List (Bor (List ℕ)))) (names : Names) (both : Both) (tables : Comparables) → texts ≡ Some lists → AreBothBy (numeric_columns texts names) both tables
     → AreExact texts names both (Some tables)
 exact_tables texts lists names both tables asked h =
-    let by : AreBothBy (counted (Some lists) names) both tables = rw asked at h in
+    let by : AreBothBy (numeric_columns (Some lists) names) both tables = rw asked at h in
     rw asked (record {
       left = by.left.rows;
       right = by.right.rows;
       large = record {
-        left = record { width = by.left.width; count = ap length by.left.rows ∙ length-map both.left.table.rows (comparable_row (counted (Some lists) names)) };
-        right = record { width = by.right.width; count = ap length by.right.rows ∙ length-map both.right.table.rows (comparable_row (counted (Some lists) names)) };
+        left = record { width = by.left.width; count = ap length by.left.rows ∙ length-map both.left.table.rows (comparable_row (numeric_columns (Some lists) names)) };
+        right = record { width = by.right.width; count = ap length by.right.rows ∙ length-map both.right.table.rows (comparable_row (numeric_columns (Some lists) names)) };
       };
     })
 
 -- with tolerances
-module _ (options : Options) (names : Names) (keys : List ℕ) (both : Both) (tables : Comparables) (h : AreBothBy (counted options.numbers names) both tables) where
+module _ (options : Options) (names : Names) (keys : List ℕ) (both : Both) (tables : Comparables) (h : AreBothBy (numeric_columns options.numbers names) both tables) where
   left_count : length tables.left.rows ≡ length both.left.table.rows
-  left_count = ap length h.left.rows ∙ length-map both.left.table.rows (comparable_row (counted options.numbers names))
+  left_count = ap length h.left.rows ∙ length-map both.left.table.rows (comparable_row (numeric_columns options.numbers names))
 
   right_count : length tables.right.rows ≡ length both.right.table.rows
-  right_count = ap length h.right.rows ∙ length-map both.right.table.rows (comparable_row (counted options.numbers names))
+  right_count = ap length h.right.rows ∙ length-map both.right.table.rows (comparable_row (numeric_columns options.numbers names))
 
   pub tolerant : (tolerances : Bor (List Tolerance)) (made : Comparables) → options.tolerances ≡ Some tolerances → AreTolerant tolerances.now names keys tables made → AreComparables options names keys both (Some made)
   tolerant tolerances made asked t = record {
@@ -69,7 +69,7 @@ module _ (options : Options) (names : Names) (keys : List ℕ) (both : Both) (ta
   tolerance_fault (error.Write cause) fault = absurd fault
 
 -- a number that can't be compared
-pub number_told : (options : Options) (names : Names) (both : Both) (e : RunError) → IsNumberFault (counted options.numbers names) names both e → IsComparedFault options names both e
+pub number_told : (options : Options) (names : Names) (both : Both) (e : RunError) → IsNumberFault (numeric_columns options.numbers names) names both e → IsComparedFault options names both e
 number_told options names both error.Memory fault = tt
 number_told options names both (error.WideExponent side line name) fault = fault
 number_told options names both error.TooManyRows fault = absurd fault

@@ -19,7 +19,7 @@ use Rattle.diff_csv.specs.declared.source.CsvTable.{CsvTable}
 use Rattle.diff_report.specs.Sides.{AreAsLarge, AreSides, compared_left, compared_right}
 use Rattle.diff_report.specs.declared.sides.Comparables.{Comparables}
 use Rattle.diff_report.specs.declared.sides.Sides.{Sides}
-use Rattle.diff_run.specs.Comparables.{AreComparables, HasNamedColumns, HasWideNumber, IsComparedFault, counted, table_on}
+use Rattle.diff_run.specs.Comparables.{AreComparables, HasNamedColumns, HasWideNumber, IsComparedFault, numeric_columns, table_on}
 use Rattle.diff_run.specs.Faults.{IsRowsFault, IsRunFault, IsSideFault, rows_on}
 use Rattle.diff_run.specs.Heads.{AreChosen, AreHeadsOf, IsFrameOf, IsHeadsFault, fault_of}
 use Rattle.diff_run.specs.Inputs.{AreBothOf}
@@ -194,7 +194,7 @@ number_fault options left_text right_text left right h f b (error.WideExponent s
       laid_out = rw (el, er) at laid;
       names = offset_strings (λ x. x) f.names;
       names_are = rw el at frame.column_names;
-      wide = subst (λ rows. HasWideNumber (counted options.numbers (offset_strings (λ x. x) f.names)) (offset_strings (λ x. x) f.names) rows name.items)
+      wide = subst (λ rows. HasWideNumber (numeric_columns options.numbers (offset_strings (λ x. x) f.names)) (offset_strings (λ x. x) f.names) rows name.items)
           (rows_read options left_text right_text h.layout b both side) fault;
     }
 number_fault options left_text right_text left right h f b error.TooManyRows heads laid frame both fault =

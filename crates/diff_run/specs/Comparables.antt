@@ -31,16 +31,16 @@ abbrev pub Texts : Type 0
 Texts = Option (Bor (List (Bor (List ℕ))))
 
 -- for each column whether its numbers count
-abbrev pub counted : Texts → Names → List Bool
-counted None names = replicate (length names) false
-counted (Some texts) names = number_columns (names_of texts.now) names
+abbrev pub numeric_columns : Texts → Names → List Bool
+numeric_columns None names = replicate (length names) false
+numeric_columns (Some texts) names = number_columns (names_of texts.now) names
 
 -- the rows that rows with these columns are compared by, before tolerances: the same rows, or their
 -- comparable rows, if numbers count or there are tolerances
 abbrev pub rows_by : Tolerances → Texts → Names → List (List (List ℕ)) → List (List (List ℕ))
 rows_by None None names rows = rows
-rows_by None (Some texts) names rows = comparable_rows (counted (Some texts) names) rows
-rows_by (Some tolerances) texts names rows = comparable_rows (counted texts names) rows
+rows_by None (Some texts) names rows = comparable_rows (numeric_columns (Some texts) names) rows
+rows_by (Some tolerances) texts names rows = comparable_rows (numeric_columns texts names) rows
 
 -- rows are those that right rows are compared by: the same rows, or those that the tolerances make
 -- of them
@@ -155,7 +155,7 @@ IsToleranceFault tables (error.Write cause) = ⊥
 abbrev pub IsComparedFault : Options → Names → Both → RunError → Type 0
 IsComparedFault options names both error.Memory = ⊤
 IsComparedFault options names both (error.WideExponent side line name) =
-    HasWideNumber (counted options.numbers names) names (table_on side both).table.rows name.items
+    HasWideNumber (numeric_columns options.numbers names) names (table_on side both).table.rows name.items
 IsComparedFault options names both error.TooManyRows =
     ¬ (HaveFew both.left.table.rows both.right.table.rows)
 IsComparedFault options names both (error.KeyTwice side first again) = ⊥

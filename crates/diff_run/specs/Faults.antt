@@ -19,7 +19,7 @@ use Rattle.diff_parts.specs.Rows.{rows_in}
 use Rattle.diff_report.specs.Sides.{compared_left, compared_right}
 use Rattle.diff_report.specs.declared.sides.Sides.{Sides}
 use Rattle.diff_run.specs.Chosen.{IsNoChoice}
-use Rattle.diff_run.specs.Comparables.{HasWideNumber, HaveFew, counted}
+use Rattle.diff_run.specs.Comparables.{HasWideNumber, HaveFew, numeric_columns}
 use Rattle.diff_run.specs.Inputs.{rows_of}
 use Rattle.diff_run.specs.Run.{AreSidesOf}
 use Rattle.diff_run.specs.declared.error.ChoiceError.{ChoiceError}
@@ -135,7 +135,7 @@ pub record IsWideFault (options : Options) (left_text right_text : List ℕ) (si
   pub names : Names
   pub names_are : names
       ≡ cells_at layout.left.items (csv.names_of options.csv.has_header left_records)
-  pub wide : HasWideNumber (counted options.numbers names) names
+  pub wide : HasWideNumber (numeric_columns options.numbers names) names
       (rows_on side options layout left_records right_records) name
 
 -- why two texts are not compared: one can't be read, the columns can't be matched, the options
