@@ -7,9 +7,9 @@ use crate::slips::slip_at;
 use std::fs;
 use std::io::Read;
 
-/// Returns a hint if the first bytes of a file show a known format that is not UTF-8 text, such as
-/// gzip, and else `None`.
-fn what_begins(head: &[u8]) -> Option<&'static str> {
+/// Returns a hint if `head`, at most the first four bytes of a file, shows a known format that is
+/// not UTF-8 text, such as gzip, and else `None`.
+fn format_hint(head: &[u8]) -> Option<&'static str> {
     match head {
         [0x1f, 0x8b, ..] => Some("it is compressed by gzip: unpack it, as in <(zcat FILE)"),
         [0x28, 0xb5, 0x2f, 0xfd] => Some(
@@ -33,7 +33,7 @@ fn what_is(rt: &HostRuntime, file: &str) -> Option<&'static str> {
     let mut reader = open_again(rt, file)?;
     let mut head = [0; 4];
     let count = reader.read(&mut head).ok()?;
-    what_begins(head.get(..count)?)
+    format_hint(head.get(..count)?)
 }
 
 /// Fails if the first bytes of a regular file show a known format that is not UTF-8 text, such as

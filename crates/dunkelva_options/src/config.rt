@@ -448,8 +448,9 @@ pub fn joined<'a>(
 }
 
 /// Returns the names of the two input files. `first` and `second` are the names on the command
-/// line. Two names there override the names in the config file. Otherwise the file has to set both
-/// names, or the command line and the file have to give one name each. Fails in all other cases.
+/// line. Two names there override the names in the config file. If there is one name, the file has
+/// to set exactly one, and this one keeps its side. If there is none, the file has to set both.
+/// Fails in all other cases.
 pub fn named_files<'a>(
     first: Option<&'a str>,
     second: Option<&'a str>,

@@ -213,8 +213,8 @@ fn hyphen_advice(alloc: Global, words: &[&str]) -> Option<String> {
     None
 }
 
-/// Returns advice if `--key` has two names in two arguments, and the second one is not the name of a
-/// file. Returns `None` if it has not, or if an allocation fails.
+/// Returns advice if two names follow `--key` as two arguments, and the second one is not the name
+/// of a file. Otherwise, or if an allocation fails, returns `None`.
 fn list_advice(rt: &HostRuntime, words: &[&str]) -> Option<String> {
     let at = words
         .iter()
@@ -270,8 +270,8 @@ pub fn advice_for(rt: &HostRuntime, words: &[&str], kind: ErrorKind) -> Option<S
     String::from_str(rt.alloc(), advice).ok()
 }
 
-/// Returns the text of a parser's error up to its first empty line. If there is advice, what follows
-/// could mislead.
+/// Returns the text of a parser's error up to its first empty line. The caller prints advice in
+/// place of the rest, since the parser's own tip could mislead.
 pub fn reason_in(alloc: Global, text: &str) -> Result<String, AllocError> {
     let mut reason = String::new(alloc);
     for line in text.lines() {

@@ -86,8 +86,8 @@ pub fn refuse_two_formats(
 
 /// Returns whether the two files have documents instead of tables. `--input` decides. Without it,
 /// the file names decide: both have to end with `.ndjson` or `.jsonl`, or neither. Standard input
-/// and a pipe of the shell have the kind of the other file. Fails if a name ends with `.json`, or if
-/// only one of two file names says that the file has documents.
+/// and a pipe of the shell have the kind of the other file. Fails if a name ends with `.json`, or
+/// if only one of two file names says that the file has documents.
 pub fn hold_documents(
     rt: &HostRuntime,
     matches: &ArgMatches<'_>,
