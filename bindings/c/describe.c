@@ -325,7 +325,9 @@ bool dunkelva_is_numbers(const struct column *column) {
 }
 
 int64_t dunkelva_window(const struct column *column) {
-  /* All entries of a dictionary are described for each window, so windows are as long as these. */
-  int64_t rows = column->extent.entries < WINDOW_ROWS ? WINDOW_ROWS : column->extent.entries;
-  return 64 * words_for_bits(rows);
+  int64_t entries = column->extent.entries;
+  if (entries == 0) {
+    return WINDOW_ROWS;
+  }
+  return 64 * words_for_bits(entries < DICTIONARY_ROWS ? DICTIONARY_ROWS : entries);
 }

@@ -27,13 +27,19 @@ static int32_t describe_window(struct pair *pair, int64_t done, int64_t count) {
   return dunkelva_describe(&pair->right, pair->right_first + done, count);
 }
 
-/* Compares the `count` described rows, and writes their bits to `out`. The kernel copies numbers
- * only if comparisons are counted. */
+/* Returns whether both columns are lent to the kernel. It copies numbers only if comparisons are
+ * counted, and all other columns always. */
+static bool are_lent(const struct pair *pair) {
+  return pair->comparisons == NULL && dunkelva_is_numbers(&pair->left) &&
+         dunkelva_is_numbers(&pair->right);
+}
+
+/* Compares the `count` described rows, and writes their bits to `out`. */
 static int32_t compare_parts(struct pair *pair, uint64_t *out, int64_t count) {
   struct column *left = &pair->left;
   struct column *right = &pair->right;
   size_t words = (size_t)words_for_bits(count);
-  if (pair->comparisons == NULL && dunkelva_is_numbers(left) && dunkelva_is_numbers(right)) {
+  if (are_lent(pair)) {
     return dunkelva_parts_equal_lent(left->parts, right->parts, out, words);
   }
   uint64_t comparisons = 0;
@@ -45,11 +51,21 @@ static int32_t compare_parts(struct pair *pair, uint64_t *out, int64_t count) {
   return DUNKELVA_OK;
 }
 
+/* Returns how many rows of a pair make a window: a multiple of 64. Both columns must be described.
+ */
+static int64_t window_of(const struct pair *pair) {
+  int64_t left = dunkelva_window(&pair->left);
+  int64_t right = dunkelva_window(&pair->right);
+  if (are_lent(pair)) {
+    return LENT_ROWS;
+  }
+  return left < right ? right : left;
+}
+
 /* Compares all rows of a pair, window by window, and writes their bits to pair->words. */
 static int32_t compare_windows(struct pair *pair) {
-  int64_t left_window = dunkelva_window(&pair->left);
-  int64_t right_window = dunkelva_window(&pair->right);
-  int64_t window = left_window < right_window ? right_window : left_window;
+  TRY(describe_window(pair, 0, 0));
+  int64_t window = window_of(pair);
   int64_t done = 0;
   do { /* also once if there are no rows, so that the types are compared */
     int64_t count = window < pair->rows - done ? window : pair->rows - done;

@@ -21,9 +21,16 @@
  * its rows. So the index of a byte or a bit fits into 64 bits. */
 #define MOST_ROWS (INT64_MAX / 64)
 
-/* The rows of a window. A column with a longer dictionary has longer windows. */
-#ifndef WINDOW_ROWS /* tests set fewer rows */
-#define WINDOW_ROWS 16384
+/* The rows of a window. The kernel copies a window, and the copy of few rows stays in the cache of
+ * a processor. For a column with dictionaries, all entries are copied for each window, and numbers
+ * that are lent to the kernel are not copied at all. So these windows are longer. */
+#ifndef WINDOW_ROWS
+#define WINDOW_ROWS 8192
+#define DICTIONARY_ROWS 16384
+#define LENT_ROWS 262144
+#else /* tests set fewer rows */
+#define DICTIONARY_ROWS WINDOW_ROWS
+#define LENT_ROWS WINDOW_ROWS
 #endif
 
 /* Makes a call, and returns its status from the enclosing function if it is not DUNKELVA_OK. */

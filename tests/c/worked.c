@@ -463,12 +463,12 @@ static void try_bytes(void) {
 /* Columns of several windows: rows that differ at the ends of windows, and a fault in the last one.
  */
 static void try_many_rows(void) {
-  enum { ROWS = 40000 };
+  enum { ROWS = 300000 };
   static int32_t left[ROWS + 1];
   static int32_t right[ROWS + 1];
   static uint8_t out[ROWS / 8];
   static uint8_t bytes[2 * ROWS];
-  const int32_t planted[] = {0, 16383, 16384, 39999};
+  const int32_t planted[] = {0, 262143, 262144, 299999};
   for (int32_t row = 0; row <= ROWS; row++) {
     left[row] = right[row] = 2 * row;
   }
@@ -495,7 +495,7 @@ static void try_many_rows(void) {
             comparisons == ROWS,
         "comparisons of all windows");
   struct made *texts = make("u", ROWS, 3, NULL, left, bytes);
-  right[35000] = 9; /* lies before the offset in front of it */
+  right[299900] = 9; /* lies before the offset in front of it */
   struct made *broken = make("u", ROWS, 3, NULL, right, bytes);
   memset(out, 0x77, sizeof out);
   count(dunkelva_equal(&texts->type, &texts->array, &broken->type, &broken->array, 0, out,

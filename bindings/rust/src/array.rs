@@ -22,7 +22,7 @@ use std::sync::Arc;
 ///
 /// A validity is copied if its first bit is not at the same position in its byte as the first row
 /// of the array, such as after [`slice`](Array::slice). Calls that compare rows read numbers in
-/// place, and copy rows of other types in blocks of about 16,384 rows.
+/// place, and copy rows of other types in blocks of some thousand rows.
 ///
 /// The rows of an array can be compared, but not read back, except numbers:
 /// [`to_numbers`](Array::to_numbers).
