@@ -30,7 +30,7 @@ prove: ## Prove everything and run all tests (the gate; one to two and a half ho
 test: ## Run most stored inputs without a proof (minutes)
 	tests/quick
 
-bench: ## Time the kernels beside plain Rust (15 minutes once they are proved; QUICK=1: one)
+bench: ## Time the kernels beside plain Rust (an hour or two once they are proved; QUICK=1: two minutes)
 	bench/run.sh
 
 site: ## Make the pages as a site (out/site; needs mkdocs)
