@@ -239,3 +239,9 @@ def test_many_rows() -> None:
     lists = [[place, None] if place % 3 else None for place in range(40_000)]
     others = [row if place % 4 else [1] for place, row in enumerate(lists)]
     assert equal(lists, others) == [one == other for one, other in zip(lists, others)]
+
+
+def test_lists_of_numpy_spans() -> None:
+    days = [np.timedelta64(1, "D"), None, np.timedelta64(0, "ns")]
+    hours = [datetime.timedelta(hours=24), None, np.timedelta64(1, "ns")]
+    assert equal(days, hours) == [True, True, False]

@@ -172,3 +172,8 @@ def test_values_of_reports() -> None:
         sides = [Exported(column(("+s", [("x", kind)]), [(cell,)], 4)) for cell in (row, None)]
         found = dunkelva.diff(sides[0], sides[1]).differences
         assert [(one.left, one.right) for one in found] == [(shown, None)]
+
+
+def test_a_diff_is_not_a_truth_value() -> None:
+    with pytest.raises(TypeError, match="ask is_same"):
+        bool(dunkelva.diff({"a": [1]}, {"a": [1]}))

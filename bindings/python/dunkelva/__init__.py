@@ -109,10 +109,11 @@ def equal(left: object, right: object, *, floats_by_bits: bool = False,
 
 
 def _equal_tables(left: Table, right: Table, flags: int) -> npt.NDArray[np.bool_]:
-    for one, other, side in ((left, right, "left"), (right, left, "right")):
-        alone = [name for name in one.columns if name not in other.columns]
-        if alone:
-            raise TypesDiffer(f"{side} alone has the columns {alone}")
+    lone = [f"{side} alone has the columns {alone}"
+            for one, other, side in ((left, right, "left"), (right, left, "right"))
+            if (alone := [name for name in one.columns if name not in other.columns])]
+    if lone:
+        raise TypesDiffer(", and ".join(lone))
     if len(left) != len(right):
         raise TypesDiffer(f"left has {len(left)} rows, right has {len(right)}")
     same = np.ones(len(left), np.bool_)

@@ -72,6 +72,9 @@ class Diff:
         return not (self.changed or self.removed or self.added or self.left_columns
                     or self.right_columns or self.types)
 
+    def __bool__(self) -> bool:
+        raise TypeError("a Diff is neither true nor false: ask is_same")
+
     def __str__(self) -> str:
         from ._report import report
         return report(self)

@@ -103,7 +103,8 @@ def _explained(status: int, left: Chunk, right: Chunk, flags: int, what: str) ->
         if again == _NOT_SERVED and chunk.type.has_floats() and not flags & FLOATS_BY_BITS:
             return NotServed(
                 f"{what}{side} is {chunk.type}: floats are compared with floats_by_bits=True alone "
-                "(a NaN is then equal to a NaN of the same bits, and -0.0 is not equal to 0.0)")
+                "(a NaN is then equal to a NaN of the same bits, and -0.0 is not equal to 0.0). "
+                "In pandas, whole numbers with gaps are floats unless their dtype is \"Int64\"")
         if again:
             return refusal(again, what + side, chunk.type)
     return refusal(status, what + "left", left.type)

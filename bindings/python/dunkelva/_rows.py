@@ -48,12 +48,13 @@ def with_none(values: Sequence[object],
     return [None if type(value) in others and is_gap(value) else value for value in values]
 
 
-# Classes of values, the narrower ones first, and their names.
+# Classes of values, the narrower ones first, and their names. np.timedelta64 is an np.integer.
 _CLASSES: Tuple[Tuple[str, Tuple[type, ...]], ...] = (
+    ("timedelta", (datetime.timedelta, np.timedelta64)),
     ("bool", (bool, np.bool_)), ("int", (int, np.integer)), ("float", (float, np.floating)),
     ("str", (str,)), ("bytes", (bytes, bytearray)),
     ("datetime", (datetime.datetime, np.datetime64)), ("date", (datetime.date,)),
-    ("timedelta", (datetime.timedelta, np.timedelta64)), ("time", (datetime.time,)),
+    ("time", (datetime.time,)),
     ("Decimal", (decimal.Decimal,)), ("dict", (dict,)), ("list", (list, tuple, np.ndarray)))
 
 
