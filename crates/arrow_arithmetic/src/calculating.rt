@@ -189,9 +189,10 @@ pub fn calculate_number<T: PlNumArithmetic>(
     Ok(present)
 }
 
-/// Calculates a function of each row of a column, and writes the results into `out`. Returns a bit
-/// for each row, 1 if the row is present. An arbitrary number is written for a null row. The only
-/// error is `Memory`, and `out` is then unchanged.
+/// Calculates the function `sign` (negation or absolute value) of each row of a column, and writes
+/// the results, wrapped to the type, into `out`. Returns a bit for each row, 1 if the row is
+/// present. An arbitrary number is written for a null row. The only error is `Memory`, and `out` is
+/// then unchanged.
 pub fn change_sign<T: PlNumArithmetic>(
     alloc: Global,
     sign: Sign,

@@ -227,7 +227,8 @@ fn validities(
     Ok((Some(early), Some(late)))
 }
 
-// Creates two arrays of one type.
+// Creates two arrays of the values, converted to `T`. The bits of `words` are their validities,
+// unless it is empty.
 fn pair_of<T: NativeType>(
     alloc: Global,
     left: &[i64],
@@ -240,7 +241,8 @@ where
     two_arrays(alloc, left, right, validities(alloc, words, left.len())?)
 }
 
-// Creates an array of one type.
+// Creates an array of the values, converted to `T`. The first bits of `words` are its validity. It
+// has no validity if `words` is empty.
 fn array_of<T: NativeType>(
     alloc: Global,
     values: &[i64],

@@ -108,7 +108,7 @@ pub(crate) fn push<T: Drop>(
 }
 
 /// Creates two windows of `len` bits of a copy of the words: one from bit `at` on, and one a word
-/// later.
+/// later. The error is `Unsupported` if the words are too few for the later window.
 pub(crate) fn windows(
     alloc: Global,
     words: &[u64],
@@ -128,8 +128,10 @@ pub(crate) fn windows(
     Ok((early, late))
 }
 
-/// Creates two triples of windows of `len` bits. In the first one the windows begin at bits
-/// `shift`, `2 * shift` and `3 * shift` of copies of the words, and in the second one a word later.
+/// Creates two triples of windows of `len` bits. The windows of the first triple begin at bit
+/// `shift` of a copy of `first`, at bit `2 * shift` of a copy of `second`, and at bit `3 * shift`
+/// of a copy of `third`. Those of the second triple begin a word later. The error is `Unsupported`
+/// if a slice is too short for its later window.
 pub(crate) fn in_two_places(
     alloc: Global,
     first: &[u64],

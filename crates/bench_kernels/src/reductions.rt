@@ -95,7 +95,9 @@ fn time_clones<T: BitNumber + WrappingSum + AsPrimitive<u64>>(
     )
 }
 
-// Creates a window of `len` bits of the words, or returns `None` if there are no words.
+// Creates a bitmap of the `len` bits of a copy of the words from bit `at` on. Returns `Ok(None)` if
+// there are no words. The error is `Unsupported` if the words don't have at least 64 bits after the
+// bitmap's last one, since `windows` also creates a bitmap that begins 64 bits later.
 pub(crate) fn validity_from(
     alloc: Global,
     words: &[u64],

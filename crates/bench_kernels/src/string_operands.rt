@@ -79,7 +79,7 @@ fn shared_views(alloc: Global, views: &[[u8; 16]]) -> Result<Buffer<View>, Compu
     Buffer::from_vec(rows).share(alloc)
 }
 
-/// Creates texts between the offsets in the bytes.
+/// Creates an array of texts from its offsets, bytes and validity.
 pub(crate) fn texts(
     alloc: Global,
     offsets: &[i32],

@@ -182,7 +182,8 @@ fn store_validity(
     }
 }
 
-// Creates the validity of an array.
+// Creates a validity for the rows. It has `place.rows_ahead()` more bits before them and as many
+// after them.
 fn store_present(
     alloc: Global,
     sort: Sort,
@@ -195,8 +196,8 @@ fn store_present(
     cut_bits(alloc, &truths, place.validity, place.rows_ahead())
 }
 
-// Appends random bits, a bit for each row, which is true if the row is present, and random bits
-// again.
+// Appends the bits of a validity: first `place.validity` random bits, then a bit for each row,
+// which is true if the row is present, and then `BEHIND` random bits.
 fn push_present(
     truths: &mut Vec<bool>,
     sort: Sort,

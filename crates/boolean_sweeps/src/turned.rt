@@ -21,7 +21,8 @@ pub fn sweep(rt: &(impl Print + AllocGlobal)) -> Result<(), Fault> {
     singles.print(rt)
 }
 
-// Creates an array of the rows, makes the first row of its list wrong, and calls all kernels.
+// Creates an array of the rows, negates the first row in the list from which the expected results
+// are computed, and calls all kernels.
 fn ask(alloc: Global, singles: &mut Singles, rows: &[Option<bool>]) -> Result<(), Fault> {
     let place = Place {
         values: 62,

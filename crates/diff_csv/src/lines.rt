@@ -19,7 +19,8 @@ pub(crate) fn line_of<R: Read>(reader: &Reader<Ends<R>>, record: &ByteRecord) ->
     let place = reader.position();
     let is_ended_by_feed = reader.get_ref().is_feed_before(place.byte());
     let last = place.line().saturating_sub(u64::from(is_ended_by_feed));
-    // The line count did not grow, except by the line feed that ended the record.
+    // `first` is the reader's line count before it read the record. If the count has grown only by
+    // the line feed that ended the record, or not at all, then no field has a line feed.
     let first = record.position().map_or(0, |at| at.line());
     if last <= first {
         return last;

@@ -13,7 +13,8 @@ use diff_lines::parts::{items_at, members_at, string_at};
 use json::Value;
 use std::alloc::{AllocError, Global};
 
-/// Appends the key of a changed row, or its line numbers in both files if it has no key.
+/// Appends the key of a changed row, or its line numbers in both files if it has no key. `line` is
+/// the JSON object of that row in a report.
 #[tactic(auto, unfolding(crate::specs::Rows::row_name))]
 fn push_row_name(alloc: Global, out: &mut Vec<u8>, line: &Value<'_>) -> Result<(), AllocError>
     requires { HasNumbers (value_view line.now) }

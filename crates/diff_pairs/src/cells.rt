@@ -33,7 +33,7 @@ pub fn all_offsets(alloc: Global, near: &[i32], far: &[i64]) -> Result<Vec<i64>,
     Ok(ends)
 }
 
-/// Returns the strings as an array with 32-bit offsets. The only error is `Memory`.
+/// Clones an array with 32-bit offsets as a `Binary` array. The only error is `Memory`.
 fn near_array(alloc: Global, array: &BinaryArray<i32>) -> Result<AnyArray, ComputeError>
     requires { array.now.validity ≡ None }
     ensures { MatchResult result (HoldsCells false (offset_strings (λ x. x) array.now)) IsMemory }
@@ -42,7 +42,7 @@ fn near_array(alloc: Global, array: &BinaryArray<i32>) -> Result<AnyArray, Compu
     Ok(AnyArray::Binary(copy))
 }
 
-/// Returns the strings as an array with 64-bit offsets. The only error is `Memory`.
+/// Clones an array with 64-bit offsets as a `LargeBinary` array. The only error is `Memory`.
 fn far_array(alloc: Global, array: &BinaryArray<i64>) -> Result<AnyArray, ComputeError>
     requires { array.now.validity ≡ None }
     ensures { MatchResult result (HoldsCells true (offset_strings (λ x. x) array.now)) IsMemory }

@@ -108,9 +108,9 @@ fn are_similar(line: &[u8], other: &[u8]) -> bool {
     similar
 }
 
-/// Returns `rows`, with each row whose line is not similar to the line at the same index replaced
-/// by a number that is not a row. This also loads the lines of the remaining rows into the cache,
-/// before they are compared.
+/// Removes unlikely guesses. Returns `rows`, but at each index `k` where the line of row `rows[k]`
+/// is not similar to `lines[k]`, the result has a number that is not a row. This also loads the
+/// lines of the remaining rows into the cache, before they are compared.
 pub(crate) fn likely_rows(
     alloc: Global,
     table: &Table,

@@ -39,7 +39,8 @@ pub(crate) fn print_text(rt: &HostRuntime, text: &[u8], status: u8) -> Result<u8
     }
 }
 
-/// Reads a file of JSON documents, and returns the schemas of their paths as text.
+/// Reads a file of JSON documents, and returns the schema of their paths, as text or as JSON
+/// (`form_in`).
 fn documents_text(rt: &HostRuntime, matches: &ArgMatches<'_>, file: &str) -> Result<Vec<u8>> {
     refuse_of_tables(matches)?;
     let reader = open(rt, file, false)?;
@@ -52,7 +53,7 @@ fn documents_text(rt: &HostRuntime, matches: &ArgMatches<'_>, file: &str) -> Res
     }
 }
 
-/// Reads a CSV file, and returns the schemas of its columns as text.
+/// Reads a CSV file, and returns the schema of its columns, as text or as JSON (`form_in`).
 fn schema_text(
     rt: &HostRuntime,
     matches: &ArgMatches<'_>,

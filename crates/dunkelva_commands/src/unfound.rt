@@ -21,7 +21,7 @@ use std::io::{BufRead, BufReader};
 /// The name of the option that selects the parts to compare.
 const ONLY: &str = "only";
 
-/// What a path in an option names: the parts that fit a pattern, or a single part.
+/// The meaning of a path in an option: the parts that fit a pattern, or a single part.
 #[derive(Clone, Copy)]
 enum Named<'p> {
     Parts(&'p Pattern),
@@ -45,7 +45,7 @@ struct Search<'a, 'p> {
     has_documents: bool,
 }
 
-/// The second of two files, of which the first can be read again.
+/// The second file, if the first one can be read again.
 #[derive(Clone, Copy)]
 enum Second<'f> {
     /// A file that can be read again.

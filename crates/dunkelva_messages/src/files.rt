@@ -12,7 +12,7 @@ enum Input {
     Standard(StdinLock<'static>),
 }
 
-/// How much of a CSV input was found to begin like a JSON document.
+/// A state of the check whether a CSV input begins like a JSON document.
 #[derive(Clone, Copy)]
 enum Start {
     /// Nothing was read.

@@ -149,8 +149,8 @@ fn lengths_hint(rt: &HostRuntime, file: &str, lengths: Lengths) -> Option<&'stat
     (lengths.found > lengths.expected).then(|| record_hint(rt, file, lengths))
 }
 
-/// Returns a hint for a file of documents whose first line is not a document, or `None` if none is
-/// known.
+/// Returns a hint for an NDJSON file if `text`, its first line, is not a document. Returns `None` if
+/// no hint is known.
 fn start_hint(text: &str) -> Option<&'static str> {
     let start = text.trim_matches(BLANKS);
     if text.starts_with('\u{feff}') {

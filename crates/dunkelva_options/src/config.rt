@@ -118,8 +118,8 @@ fn quotes_for(name: &str) -> &'static str {
     }
 }
 
-/// Appends an argument for each text of an array. A string is an array of one text. Fails if the
-/// value or an item is not a string.
+/// Appends an argument for each text of an array. A string is treated as an array of this one text.
+/// Fails if the value is neither an array nor a string, or if an item is not a string.
 fn push_texts(words: &mut Vec<String>, alloc: Global, name: &str, value: &Value) -> Result<()> {
     let Some(items) = value.as_array() else {
         return push_text(words, alloc, name, value);
@@ -139,7 +139,8 @@ fn name_in<'a>(name: &str, value: &'a Value) -> Result<&'a str> {
 }
 
 /// Appends an argument for each name of an array. A string is appended unchanged: it may be a
-/// comma-separated list, as on the command line. Fails if the value or an item is not a string.
+/// comma-separated list, as on the command line. Fails if the value is neither an array nor a
+/// string, or if an item is not a string.
 fn push_names(words: &mut Vec<String>, alloc: Global, name: &str, value: &Value) -> Result<()> {
     let Some(items) = value.as_array() else {
         return push_word(words, alloc, name, name_in(name, value)?);

@@ -41,8 +41,8 @@ fn pattern_of(alloc: Global, option: &str, word: &str) -> Result<Pattern> {
     }
 }
 
-/// Parses the patterns in the lists of an option, and appends them. Fails if a text is not a
-/// pattern.
+/// Parses the patterns that an option gives, as a comma-separated list at each use, and appends
+/// them to `patterns`. Fails if a text is not a pattern.
 fn push_patterns(
     patterns: &mut Vec<Pattern>,
     alloc: Global,
@@ -92,7 +92,9 @@ fn no_bound(option: &str, word: &str, error: BoundError) -> Error {
     }
 }
 
-/// Returns the error for a tolerance without a bound. `takes` says what the option takes.
+/// Returns the error for the text `word`, which has no equals sign and thus no bound. `takes` says
+/// what the option takes. If `word` is all digits, a hint says how to write decimals: a list is
+/// split at commas, so `price=0,01` leaves the text `01`.
 pub(crate) fn without_bound(option: &str, takes: &str, word: &str) -> Error {
     let error = trouble!("--{option} takes {takes}, not {}", quoted(word));
     if is_digits(word) {
@@ -145,7 +147,8 @@ fn tolerance_of(alloc: Global, option: &str, word: &str) -> Result<Tolerance> {
     Ok(Tolerance { pattern, margin })
 }
 
-/// Parses the tolerances in the lists of an option, and appends them. Fails if one is invalid.
+/// Parses the tolerances that an option gives, as a comma-separated list at each use, and appends
+/// them to `tolerances`. Fails if one is invalid.
 fn push_tolerances(
     tolerances: &mut Vec<Tolerance>,
     alloc: Global,

@@ -1,11 +1,12 @@
-//! Runs inputs over readers and writers that fail, and prints the outcome of each run.
+//! Runs `polars_tables_lines` over readers and writers that fail, and prints the outcome of each
+//! run. Each line of standard input describes a run.
 //!
 //! A line is `READS WRITES BYTES`: the run's input is `BYTES`, its reader gives one byte at a time
 //! and fails after `READS` reads, and its writer accepts one byte at a time and fails after
 //! `WRITES` writes. Bytes are `x` and two hexadecimal digits for each.
 //! `READS WRITES BYTES TIMES PIECE` has the bytes of `PIECE`, `TIMES` times, after those of
-//! `BYTES`. `demo WRITES` is the demo over such a writer. These words may come before a line, in
-//! this order:
+//! `BYTES`. `demo WRITES` runs the demo of `polars_tables_lines` over such a writer. These words
+//! may come before a line, in this order:
 //!
 //! - `interrupted`: each read and each write is interrupted once before it succeeds
 //! - `boasting`: a read that gives bytes reports one more, if the buffer has room for it; that byte

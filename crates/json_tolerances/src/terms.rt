@@ -41,8 +41,8 @@ fn byte_at(front: &[u8], back: &[u8], i: usize) -> u8
     }
 }
 
-/// Returns the integer that the digits in two slices write, one slice after the other. Returns
-/// `None` if it has more than 18 digits, not counting leading zeros.
+/// Reads the digits of two slices, one slice after the other, as one integer. Returns `None` if it
+/// has more than 18 digits, not counting leading zeros.
 pub(crate) fn value_of(front: &[u8], back: &[u8]) -> Option<u64>
     requires front { AllDigits 10 front.now }
     requires back { AllDigits 10 back.now }

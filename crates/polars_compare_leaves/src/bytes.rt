@@ -43,9 +43,10 @@ pub trait ByteComparison {
     }
 
     /// Returns whether the comparison holds for the first `n` bytes of `left` and the first `m`
-    /// bytes of `right`. If `n` and `m` are at most 16, and both slices have at least 16 bytes,
-    /// these are compared as one block of 16 bytes each, which is faster.
-    fn compare_on(&self, left: &[u8], n: usize, right: &[u8], m: usize) -> bool
+    /// bytes of `right`. The bytes behind them do not change the result. They are there for speed:
+    /// if `n` and `m` are at most 16 and both slices have at least 16 bytes, each side is loaded as
+    /// one block of 16 bytes.
+    fn compare_beginnings(&self, left: &[u8], n: usize, right: &[u8], m: usize) -> bool
         requires left_in { n ≤ length left.now }
         requires right_in { m ≤ length right.now }
         ensures { result ≡ rows (Bytes (take n left.now)) (Bytes (take m right.now)) };
@@ -65,7 +66,7 @@ impl ByteComparison for Equal {
     }
 
     #[inline(always)]
-    fn compare_on(&self, left: &[u8], n: usize, right: &[u8], m: usize) -> bool {
+    fn compare_beginnings(&self, left: &[u8], n: usize, right: &[u8], m: usize) -> bool {
         beginnings_equal(left, n, right, m)
     }
 }
@@ -84,7 +85,7 @@ impl ByteComparison for Unequal {
     }
 
     #[inline(always)]
-    fn compare_on(&self, left: &[u8], n: usize, right: &[u8], m: usize) -> bool {
+    fn compare_beginnings(&self, left: &[u8], n: usize, right: &[u8], m: usize) -> bool {
         !beginnings_equal(left, n, right, m)
     }
 }
@@ -98,7 +99,7 @@ impl ByteComparison for Less {
     }
 
     #[inline(always)]
-    fn compare_on(&self, left: &[u8], n: usize, right: &[u8], m: usize) -> bool {
+    fn compare_beginnings(&self, left: &[u8], n: usize, right: &[u8], m: usize) -> bool {
         beginnings_less(left, n, right, m)
     }
 }
@@ -112,7 +113,7 @@ impl ByteComparison for LessOrEqual {
     }
 
     #[inline(always)]
-    fn compare_on(&self, left: &[u8], n: usize, right: &[u8], m: usize) -> bool {
+    fn compare_beginnings(&self, left: &[u8], n: usize, right: &[u8], m: usize) -> bool {
         !beginnings_less(right, m, left, n)
     }
 }
@@ -126,7 +127,7 @@ impl ByteComparison for Greater {
     }
 
     #[inline(always)]
-    fn compare_on(&self, left: &[u8], n: usize, right: &[u8], m: usize) -> bool {
+    fn compare_beginnings(&self, left: &[u8], n: usize, right: &[u8], m: usize) -> bool {
         beginnings_less(right, m, left, n)
     }
 }
@@ -140,7 +141,7 @@ impl ByteComparison for GreaterOrEqual {
     }
 
     #[inline(always)]
-    fn compare_on(&self, left: &[u8], n: usize, right: &[u8], m: usize) -> bool {
+    fn compare_beginnings(&self, left: &[u8], n: usize, right: &[u8], m: usize) -> bool {
         !beginnings_less(left, n, right, m)
     }
 }
@@ -174,7 +175,7 @@ impl<'a, L: ByteRows, R: ByteRows, E: ByteComparison> TruthValues for StringPair
     fn value(&self, i: usize) -> bool {
         let (left, n) = self.left.bytes_on(self.a + i);
         let (right, m) = self.right.bytes_on(self.b + i);
-        self.comparison.compare_on(left, n, right, m)
+        self.comparison.compare_beginnings(left, n, right, m)
     }
 
     #[inline(always)]
@@ -267,7 +268,7 @@ impl<'a, L: ByteRows, E: ByteComparison> TruthValues for StringsOnBlock<'a, L, E
     #[inline(always)]
     fn value(&self, i: usize) -> bool {
         let (left, n) = self.left.bytes_on(i);
-        self.comparison.compare_on(left, n, self.block, self.m)
+        self.comparison.compare_beginnings(left, n, self.block, self.m)
     }
 
     #[inline(always)]

@@ -98,7 +98,7 @@ fn same_bytes<R: ByteRows>(left: &R, a: usize, right: &R, b: usize) -> bool
 {
     let (left, n) = left.bytes_on(a);
     let (right, m) = right.bytes_on(b);
-    ByteComparison::compare_on(&Equal, left, n, right, m)
+    ByteComparison::compare_beginnings(&Equal, left, n, right, m)
 }
 
 // Returns whether text `a` of the left array is equal to text `b` of the right one.

@@ -245,8 +245,8 @@ pub(crate) fn matching_rows<L: Offset, R: Offset>(
     n
 }
 
-// A truth value for each list of a run: whether the bits of all its items are set. The first bit of
-// `items` is that of item `first`.
+// A truth value for each of the `rows` lists from list `a` on: whether the bits of all its items
+// are set. The first bit of `items` is that of item `first`, the first item of list `a`.
 #[derive(Drop)]
 struct ListBits<'m, 'a, O: Offset> {
     items: &'m BitMask<'a>,
@@ -368,8 +368,8 @@ pub(crate) fn push_lists<O: Offset>(
     }
 }
 
-// A truth value for each list of a run: whether the bits of all its items are set. The lowest bit
-// of `word` is that of item `first`.
+// A truth value for each of the `rows` lists from list `a` on: whether the bits of all its items
+// are set. The lowest bit of `word` is that of item `first`, the first item of list `a`.
 #[derive(Drop)]
 struct WordLists<'m, O: Offset> {
     word: u64,

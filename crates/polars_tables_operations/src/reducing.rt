@@ -11,8 +11,8 @@ ghost use Rattle.polars_tables_rows.specs.Types.{width_of};
 use crate::kernel_array::KernelArray;
 use crate::operation::Reduction;
 
-// Returns a value unchanged. The proof learns from this call that the bits of the value, read as a
-// row again, give its row.
+// Returns `found` unchanged. The clause `bits` adds a fact that the proof of `reduce` needs: a row
+// that is converted to bits, and back to a row, is the same row.
 fn unchanged<A: KernelArray>(found: Option<A::Value>) -> Option<A::Value>
     ensures same { result ≡ found }
     ensures bits { option_map A.value_row result

@@ -4,8 +4,8 @@ ghost use Rattle.std.specs.Prelude.{◌≡◌, map};
 ghost use Rattle.std.specs.Str.{bytes_eq};
 ghost use Rattle.polars_tables_rows.specs.Tables.{find};
 
-/// Returns whether two texts are equal. A separate function, so that a loop that calls it seldom
-/// can keep its texts in registers.
+/// Returns whether two texts are equal. Not inlined, so that a loop over texts, few of which have
+/// the right length, can keep their addresses and lengths in registers.
 #[inline(never)]
 fn are_equal(left: &str, right: &str) -> bool
     ensures { result ≡ bytes_eq left.now right.now }

@@ -111,7 +111,8 @@ fn sized<const SIZE: usize>(alloc: Global, array: &FixedSizeBinaryArray) -> Resu
     write_strings(alloc, &OfSize::<SIZE>::new(array))
 }
 
-// Returns the type and the byte strings of the array that stores texts between offsets.
+// Returns the type and the byte strings of the binary array inside an array of texts. The error is
+// `Case` for any array but texts with offsets.
 fn as_binary(alloc: Global, array: &AnyArray) -> Result<String, Fault> {
     match array {
         AnyArray::Utf8(array) => binary_of(alloc, array),
@@ -120,13 +121,14 @@ fn as_binary(alloc: Global, array: &AnyArray) -> Result<String, Fault> {
     }
 }
 
-// Returns the type and the byte strings of the array that stores texts.
+// Returns the type and the byte strings of the binary array inside an array of texts.
 fn binary_of<O: OffsetType>(alloc: Global, array: &Utf8Array<O>) -> Result<String, Fault> {
     let binary = array.as_binary();
     write_typed(alloc, binary.dtype(alloc), binary)
 }
 
-// Returns the type and the byte strings of the array that stores texts in views.
+// Returns the type and the byte strings of the binary array inside an array of texts in views. The
+// error is `Case` for any other array.
 fn as_binview(alloc: Global, array: &AnyArray) -> Result<String, Fault> {
     let AnyArray::Utf8View(array) = array else {
         return Err(Fault::Case);

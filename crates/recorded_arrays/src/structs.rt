@@ -30,7 +30,7 @@ pub fn try_new(alloc: Global, store: &Store, words: &mut Words) -> Result<String
     write_struct(alloc, StructArray::try_new(fields, len, columns, validity))
 }
 
-// Returns the rows of structs, or the error.
+// Returns the rows of structs as text, or the text of the error.
 fn write_struct(alloc: Global, made: Result<StructArray, ArrayError>) -> Result<String, Fault>
     requires { IfOk made (λ array. IsGood (Struct array)) }
 {
@@ -40,7 +40,7 @@ fn write_struct(alloc: Global, made: Result<StructArray, ArrayError>) -> Result<
     }
 }
 
-// Returns the error of creating structs.
+// Returns the text of an error of `StructArray::try_new`: `refused: ` and the error's message.
 fn refusal(alloc: Global, error: &ArrayError) -> Result<String, Fault> {
     format!(in alloc; "refused: {error}").map_err(Fault::from)
 }

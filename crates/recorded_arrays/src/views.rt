@@ -33,7 +33,8 @@ pub fn ask_next(alloc: Global, asked: Asked, words: &mut Words) -> Result<String
     ask(alloc, asked, read(alloc, words)?, words)
 }
 
-/// Returns the view of a row of at most 12 bytes.
+/// Reads a row from the next word, and returns the bytes of its view as text. The error is `Case`
+/// if the row has more than 12 bytes.
 pub fn of_short(alloc: Global, words: &mut Words) -> Result<String, Fault> {
     let bytes = read_bytes(alloc, words.read()?)?;
     if bytes.len() > 12 {

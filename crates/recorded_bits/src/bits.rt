@@ -204,12 +204,13 @@ pub fn cut(alloc: Global, bits: &Bitmap, at: usize, n: usize) -> Result<Bitmap, 
     Ok(window)
 }
 
-/// Returns the text of bits, unless there is an error.
+/// Returns the text of a bitmap that was read, or the error of reading it.
 pub fn write_read(alloc: Global, bits: Result<Bitmap, Fault>) -> Result<String, Fault> {
     write_bits(alloc, &bits?)
 }
 
-// Returns the result of a call on the bitmap of the next word.
+// Reads a bitmap from the next word of the text, and returns the result of the call `asked` on it.
+// Further arguments of the call are read from the words after it.
 fn ask_next(alloc: Global, asked: OfOne, words: &mut Words) -> Result<String, Fault> {
     let x = read_bitmap(alloc, words)?;
     ask_one(alloc, asked, &x, words)
@@ -320,7 +321,8 @@ fn read_filled(alloc: Global, words: &mut Words) -> Result<Bitmap, Fault> {
     Bitmap::new_with_value(alloc, value, n).map_err(Fault::from)
 }
 
-// Counts the true ones among bits of one value.
+// Reads a value and a length, and returns the count of set bits of a bitmap of that length whose
+// bits all have that value.
 fn count_filled(alloc: Global, words: &mut Words) -> Result<String, Fault> {
     let bits = read_filled(alloc, words)?;
     write_value(alloc, bits.set_bits())

@@ -158,7 +158,8 @@ fn windows<T: NativeType + FromStr<Err: Drop>, E: Comparison<T, T>>(
     write_windows(alloc, comparison, &left, &right, words.read_number())
 }
 
-// Compares two windows of `n` numbers, unless there is an error.
+// Compares two windows of `count` numbers, place by place. If `count` is an error, returns it. The
+// error is `Case` if a window is out of range.
 fn write_windows<T: NativeType, E: Comparison<T, T>>(
     alloc: Global,
     comparison: &E,

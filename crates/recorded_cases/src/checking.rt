@@ -54,7 +54,8 @@ fn split_answer(line: &str) -> (&str, Option<&str>) {
     }
 }
 
-/// Makes the calls of a text, and compares the results with the recorded ones or prints them.
+/// Makes the call that each line of `text` names. Depending on `mode`, compares its result with the
+/// recorded one, or prints it. `file` is the name that messages give to the text.
 pub fn check_text<R: Print + Eprint + AllocGlobal>(
     rt: &R,
     file: &str,

@@ -55,7 +55,9 @@ fn join_left(
     join_read(alloc, join, relation, raw, left, &right)
 }
 
-// Joins raw bits with two validities of the same length, by a call.
+// Joins raw bits with two validities by `join_masks`, and returns the text of the resulting bits.
+// `join` says whether the masks are made by `Mask::lent` or directly of the bitmaps. The error is
+// `Case` if a validity has another length than the bits.
 fn join_read(
     alloc: Global,
     join: Join,

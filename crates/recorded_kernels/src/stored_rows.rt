@@ -156,7 +156,8 @@ fn view_windows<C: ViewComparison>(
     write_followed(alloc, bits, &steps)
 }
 
-/// Compares the rows of an array with the constant of a word, by the call for its kind.
+/// Compares each row of an array with a constant, which is the next word, by the function for the
+/// array's kind.
 pub fn ask_constant<C: TruthComparison + ByteComparison + ViewComparison>(
     alloc: Global,
     comparison: &C,
@@ -180,7 +181,7 @@ pub fn ask_constant<C: TruthComparison + ByteComparison + ViewComparison>(
     }
 }
 
-// Compares the byte strings of an array with the one of a word.
+// Compares each byte string of an array with a constant, which is the next word.
 fn strings_beside<C: ByteComparison>(
     alloc: Global,
     comparison: &C,
@@ -202,7 +203,7 @@ fn passing_strings<C: ByteComparison>(
         Binary LargeBinary Utf8 LargeUtf8 BinaryView Utf8View FixedSizeBinary)
 }
 
-// Compares byte strings in views with the one of a word.
+// Compares each byte string of an array of views with a constant, which is the next word.
 fn views_beside<C: ViewComparison>(
     alloc: Global,
     comparison: &C,

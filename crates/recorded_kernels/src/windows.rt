@@ -202,8 +202,8 @@ fn equal_bits<K: LeafKernel>(
     }
 }
 
-// Returns the raw bits of two windows of one type by the call for their kind, or `None` for another
-// kind.
+// Calls the kernel method that `call` names on the stored slots of two windows of one type, which
+// ignores nulls. Returns `None` if the windows are not of a kind that this method compares.
 fn stored_bits<K: LeafKernel>(
     alloc: Global,
     call: Counted,

@@ -70,7 +70,7 @@ fn push_two(text: &mut String, least: AnyScalar<'_>, greatest: AnyScalar<'_>) ->
     push_scalar(text, greatest)
 }
 
-// Appends a scalar: the name of its kind, and the row.
+// Appends the name of a scalar's kind, a space, and the scalar.
 fn push_scalar(text: &mut String, scalar: AnyScalar<'_>) -> Result<(), Fault> {
     match scalar {
         AnyScalar::Boolean(truth) => push_plain(text, "bool ", truth),

@@ -35,7 +35,8 @@ pub fn write_all<N: NewStates>(
     write_seen(alloc, state_of_all::<N>(alloc, store, words))
 }
 
-/// Returns the stored values of the array that the state given by words is finalised to.
+/// Reads a state from `words`, finalises it, and returns the text of the stored values of that
+/// array.
 pub fn write_stored<N: NewStates>(
     alloc: Global,
     store: &Store,

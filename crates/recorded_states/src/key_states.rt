@@ -33,7 +33,8 @@ use recorded_text::type_text::write_type;
 use recorded_text::words::Words;
 use std::alloc::Global;
 
-// Returns the question of a call that exists for states of any range, or `None` for another call.
+// Returns the `Question` that a call asks. Returns `None` for a call of another subject, and for
+// the calls that `answer` handles itself.
 fn question_of(call: &str) -> Option<Question> {
     match call {
         "keys_fit" => Some(Question::Fit),

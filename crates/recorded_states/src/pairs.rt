@@ -101,8 +101,8 @@ fn push_steps<S: CountedState>(
     Ok(())
 }
 
-// Appends to a text two states, and `again`, a state equal to the first, with the second merged
-// into it.
+// Appends three states to a text: `first`, `second`, and `again` with `second` merged into it.
+// Before the merge, `again` must be equal to `first`.
 fn add_states<S: RecordedState>(
     alloc: Global,
     text: String,

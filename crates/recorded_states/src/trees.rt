@@ -9,7 +9,7 @@
 //! - `merge_tree_keys TREE`; a leaf V A is a state of the keys of the entries V, to which A is
 //!   appended
 //!
-//! Whether all leaves have one range:
+//! `true` if all leaves have one range, or else `false`:
 //!
 //! - `one_range_numbers TYPE TREE`; a leaf MIN MAX is a new state of these numbers
 //! - `one_range_keys TREE`; a leaf V is a new state of the keys of these entries

@@ -119,7 +119,8 @@ fn read_number_array(
     }
 }
 
-// Reads an array that holds arrays, which are nested at most `depth` levels deep.
+// Reads an array of the nested kind that `kind` names (a list, a struct or a dictionary), whose
+// children may be nested up to `depth` levels deep.
 #[cycle(read)]
 fn read_holder(
     alloc: Global,
@@ -176,7 +177,8 @@ fn list_of(
     }
 }
 
-/// Puts an array in a box, for one that holds it.
+/// Moves an array into a box, in which a nested array keeps its child. If `array` is an error,
+/// returns that error.
 pub(crate) fn boxed(alloc: Global, array: Result<AnyArray, Fault>) -> Result<Box<AnyArray>, Fault>
     requires { IfOk array (λ a. IsGood a) }
     ensures { IfOk result (λ a. IsGood a.value) }

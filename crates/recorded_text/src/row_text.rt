@@ -216,7 +216,7 @@ pub fn write_rows(alloc: Global, array: &AnyArray) -> Result<String, Fault>
     Ok(text)
 }
 
-/// Returns the rows of an array that a call returned, separated by spaces.
+/// Returns the rows of an array, separated by spaces, and drops the array.
 pub fn write_made(alloc: Global, array: AnyArray) -> Result<String, Fault>
     requires { IsGood array }
 {

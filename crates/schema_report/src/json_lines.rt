@@ -37,7 +37,8 @@ pub fn push_count(out: &mut Vec<u8>, before: &[u8], count: Option<usize>) -> Res
     }
 }
 
-/// Appends `before`, and then the value as a JSON string, or `null` for `None`.
+/// Appends `before` unchanged, then `value` as a JSON string, or the JSON word `null` if `value` is
+/// `None`.
 pub fn push_value(
     out: &mut Vec<u8>,
     before: &[u8],
@@ -69,7 +70,7 @@ fn push_head(out: &mut Vec<u8>, column: &ColumnSchema) -> Result<(), AllocError>
     Ok(())
 }
 
-/// Appends the members with its counts.
+/// Appends the members for the counts of a column: rows, nulls, missing rows, distinct values.
 #[tactic(auto, unfolding(crate::specs::JsonLines::count_members))]
 fn push_counts(out: &mut Vec<u8>, column: &ColumnSchema) -> Result<(), AllocError>
     ensures { OnOk result (out.new.items ≡ out.old.items ++ count_members column.now) }
@@ -81,8 +82,8 @@ fn push_counts(out: &mut Vec<u8>, column: &ColumnSchema) -> Result<(), AllocErro
     Ok(())
 }
 
-/// Appends the members with the least and the greatest value, and the end of the object and of the
-/// line.
+/// Appends the members for the least and the greatest value of a column, then closes the object and
+/// ends the line.
 #[tactic(auto, unfolding(crate::specs::JsonLines::end_members))]
 fn push_ends(out: &mut Vec<u8>, column: &ColumnSchema) -> Result<(), AllocError>
     ensures { OnOk result (out.new.items ≡ out.old.items ++ end_members column.now) }

@@ -53,8 +53,10 @@ fn best_text(
     Ok(Some(text))
 }
 
-/// Returns the number of different numbers, and the least and the greatest of them. `texts` has the
-/// normal text of each cell. The only error is `Memory`.
+/// Returns the number of different numbers, and the least and the greatest in the spelling that
+/// comes first. Each cell must be a number in JSON syntax whose exponent has at most 30 digits,
+/// leading zeros not counted (`IsNarrow`). `texts` has the normal text of each cell. The only error
+/// is `Memory`.
 fn exact_values(
     alloc: Global,
     cells: &BinaryArray<i64>,

@@ -17,7 +17,7 @@ bytes_on-m-requires g c = let within = pair-within g.E.ByteComparison.rows c.arg
 
 pub returns : goal.returns
 returns g c =
-    c.compare_on.ensures
+    c.compare_beginnings.ensures
     ∙ ap₂ (λ xs ys. g.E.ByteComparison.rows (Bytes xs) (Bytes ys)) c.bytes_on-n.ensures.string c.bytes_on-m.ensures.string
     ∙ sym
     (pairs-at g.E.ByteComparison.rows c.args.self.now.a c.args.self.now.b c.args.self.now.n c.args.i (g.L.ByteRows.strings c.args.self.now.left.now)
