@@ -179,7 +179,9 @@ def test_streams() -> None:
 
 @pytest.mark.parametrize("call, words", [
     (lambda: dunkelva.compare([1], "=", [1]), "'=' is none of the tests"),
-    (lambda: dunkelva.compare(["a"], "<", ["b"]), "left and right is large_string"),
+    (lambda: dunkelva.compare(["a"], "<", ["b"]), "left and right are large_string"),
+    (lambda: dunkelva.compare(["a"], "<", 1), "left is large_string, which is not served here"),
+    (lambda: dunkelva.compare([1.5], "<", "a"), "left is float64, which is not served here"),
     (lambda: dunkelva.compare([1], "<", [1, 2]), "left has 1 rows, right has 2"),
     (lambda: dunkelva.compare([1], "<", None), "right: a value for all rows is no null"),
     (lambda: dunkelva.compare({"a": [1]}, "<", {"a": [1]}), "left is a table"),
@@ -202,3 +204,5 @@ def test_names_that_are_missing() -> None:
         dunkelva.diff({"id": [1]}, {"a": [1]}, on="id")
     with pytest.raises(KeyError, match="neither left nor right has a column 'x'"):
         dunkelva.assert_equal({"id": [1]}, {"id": [1]}, key="id", ignore="x")
+    with pytest.raises(TypeError, match="key is another name for on"):
+        dunkelva.assert_equal({"id": [1]}, {"id": [1]}, key="id", on="id")

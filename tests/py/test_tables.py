@@ -33,6 +33,7 @@ OLD = pd.DataFrame({"id": [1, 2, 3, 4], "city": ["Oslo", "Rome", None, "Bonn"],
 def test_same_tables() -> None:
     turned = OLD.iloc[::-1][["day", "amount", "id", "city"]]
     dunkelva.assert_equal(OLD, turned, key="id")
+    dunkelva.assert_equal(OLD, turned, on=["id"])
     dunkelva.assert_equal(OLD, OLD.copy())
     dunkelva.assert_equal([1, None], masked([1, 7], mask=[0, 1]))
     dunkelva.assert_equal({}, {})

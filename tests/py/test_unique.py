@@ -145,9 +145,9 @@ def test_refused() -> None:
     state = dunkelva.Unique(0, 9, "i4")
     with pytest.raises(dunkelva.TypesDiffer, match="it is int64, and the state of int32"):
         state.append(np.array([1, 2]))
-    with pytest.raises(dunkelva.TypesDiffer):
+    with pytest.raises(dunkelva.TypesDiffer, match="from 0 to 8, merged into .* from 0 to 9"):
         state.merge(dunkelva.Unique(0, 8, "i4"))
-    with pytest.raises(dunkelva.TypesDiffer):
+    with pytest.raises(dunkelva.TypesDiffer, match="a state of int64, merged into one of int32"):
         state.merge(dunkelva.Unique(0, 9, "i8"))
     parts: Any = ([1, None], [10])
     with pytest.raises(dunkelva.OutOfRange, match="outside of the range from 0 to 9"):

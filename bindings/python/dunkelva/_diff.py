@@ -321,17 +321,18 @@ def _chunks(column: Column, rows: _Places) -> Tuple[_Places, _Places]:
     return chunk, np.concatenate([[0], ends])[chunk]
 
 
-def assert_equal(left: object, right: object, *, key: Union[str, Sequence[str]] = (),
-                 only: Optional[Iterable[str]] = None, ignore: Iterable[str] = (),
-                 floats_by_bits: bool = False, show: int = 20) -> None:
+def assert_equal(left: object, right: object, *, on: Union[str, Sequence[str]] = (),
+                 key: Union[str, Sequence[str]] = (), only: Optional[Iterable[str]] = None,
+                 ignore: Iterable[str] = (), floats_by_bits: bool = False,
+                 show: int = 20) -> None:
     """Raises an AssertionError with a report if two tables or two columns differ.
 
     Parameters
     ----------
-    left, right, only, ignore, floats_by_bits
+    left, right, on, only, ignore, floats_by_bits
         As in `diff`.
     key : str or sequence of str
-        The columns of the key, as `on` in `diff`.
+        Another name for `on`.
     show : int
         The most differences in the report.
 
@@ -341,11 +342,13 @@ def assert_equal(left: object, right: object, *, key: Union[str, Sequence[str]] 
         If there is a difference.
     DunkelvaError, KeyError
         As in `diff`.
+    TypeError
+        If both `on` and `key` are given.
 
     Examples
     --------
     >>> assert_equal([1, None, 3], [1, None, 3])
-    >>> assert_equal({"id": [1, 2], "n": [5, 6]}, {"id": [2, 1], "n": [7, 5]}, key="id")
+    >>> assert_equal({"id": [1, 2], "n": [5, 6]}, {"id": [2, 1], "n": [7, 5]}, on="id")
     Traceback (most recent call last):
         ...
     AssertionError: left and right differ: 1 changed, 1 the same.  By column: n 1.
@@ -353,7 +356,9 @@ def assert_equal(left: object, right: object, *, key: Union[str, Sequence[str]] 
     2   n       6     7
     """
     __tracebackhide__ = True
-    found = diff(left, right, key, only=only, ignore=ignore, floats_by_bits=floats_by_bits,
+    if on and key:
+        raise TypeError("key is another name for on: give one of them")
+    found = diff(left, right, on or key, only=only, ignore=ignore, floats_by_bits=floats_by_bits,
                  limit=show)
     if not found.is_same:
         raise AssertionError(f"left and right differ: {found}")

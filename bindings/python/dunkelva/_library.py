@@ -86,7 +86,8 @@ def refusal(status: int, what: str, type: Type) -> Exception:
     if status == _NO_MEMORY:
         return MemoryError("dunkelva: an allocation failed")
     if status == _NOT_SERVED:
-        return NotServed(f"{what} is {type}, which is not served here")
+        verb = "are" if " and " in what else "is"
+        return NotServed(f"{what} {verb} {type}, which is not served here")
     if status == _TYPES_DIFFER:
         return TypesDiffer(f"{what}, {type}: {_said(status)}")
     if status in (_BAD_ARRAY, _BAD_STRUCTS, _BAD_ARGUMENT):

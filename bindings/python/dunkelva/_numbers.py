@@ -93,13 +93,15 @@ def two_columns(left: object, right: object) -> Tuple[Column, Column]:
 
 def number_of_value(column: Column, value: object, names: Tuple[str, str]) -> Number:
     """Returns a value as a number of a column. `names` are those of the column and the value."""
+    kind = column.type
+    is_number = kind.number() is not None and kind.entries is None and not kind.has_floats()
     try:
-        kept = build([value], column.type)
+        kept = build([value], kind) if is_number else None
     except Unfit as error:
         raise TypesDiffer(f"{names[1]}: {error}") from None
-    numbers = numbers_of(kept)
-    if numbers is None or column.type.entries is not None or column.type.has_floats():
-        raise NotServed(f"{names[0]} is {column.type}, which is not served here")
+    numbers = None if kept is None else numbers_of(kept)
+    if kept is None or numbers is None:
+        raise NotServed(f"{names[0]} is {kind}, which is not served here")
     if not present_rows(kept)[0]:
         raise TypesDiffer(f"{names[1]}: a value for all rows is no null")
     number = int(numbers[0])

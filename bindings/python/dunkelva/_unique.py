@@ -211,6 +211,10 @@ class Unique:
             return
         if self._type != other._type:
             raise TypesDiffer(f"a state of {other._type}, merged into one of {self._type}")
+        if self._ends != other._ends:
+            raise TypesDiffer(f"a state of the range from {other.low} to {other.high}, merged into "
+                              f"one of the range from {self.low} to {self.high}: only states of "
+                              "one range can be merged")
         status = _merge(self._state, other._state)
         if status:
             raise refusal(status, "states", self._type)

@@ -15,7 +15,8 @@ use polars_arrays_numbers::native_type::NativeType;
 use polars_compute_arithmetic::arithmetic::{ArithmeticKernel, HasPrimitiveArithmeticKernel};
 use std::alloc::Global;
 
-/// The result of `row_of` if there is no number.
+/// The number that stands for a missing result: a null row, a row that does not exist, or a kernel
+/// that failed or found nothing.
 pub(crate) const NO_NUMBER: u64 = 0x5555_5555_5555_5555;
 
 /// An operation on two arrays.
@@ -29,7 +30,7 @@ pub(crate) enum PairOperation {
     Mod,
 }
 
-/// An operation on one array, or on one and a number.
+/// An operation on one array, or on one array and a number for all rows.
 #[derive(Clone, Copy)]
 pub(crate) enum LoneOperation {
     Abs,
@@ -42,9 +43,9 @@ pub(crate) enum LoneOperation {
     Mod,
 }
 
-/// The other operand of an operation that consumes an array.
+/// The second operand of an operation. The operation consumes its first operand, an array.
 trait Beside<T: NativeType> {
-    /// The type of operations on both.
+    /// The type of operations that have such a second operand.
     type Operation: Copy;
 
     /// Runs an operation once.
@@ -56,7 +57,7 @@ trait Beside<T: NativeType> {
     ) -> Result<PrimitiveArray<T>, ComputeError>;
 }
 
-// A second array, whose values are shared with the operation's operand.
+// An array as the second operand. Each run gets a clone of it, which shares its values.
 impl<T: HasPrimitiveArithmeticKernel> Beside<T> for PrimitiveArray<T> {
     type Operation = PairOperation;
 
@@ -81,7 +82,7 @@ impl<T: HasPrimitiveArithmeticKernel> Beside<T> for PrimitiveArray<T> {
     }
 }
 
-// Runs an operation on two arrays of equal length.
+// Runs an operation on two arrays of equal length, and returns the resulting array.
 #[inline(always)]
 fn run_pair<T: HasPrimitiveArithmeticKernel>(
     alloc: Global,
@@ -102,7 +103,7 @@ fn run_pair<T: HasPrimitiveArithmeticKernel>(
     }
 }
 
-/// A number for all rows.
+/// A number for all rows, as the second operand. `Abs` and `Neg` do not use it.
 #[derive(Drop)]
 struct Scalar<T: NativeType> {
     number: T,
@@ -132,7 +133,8 @@ impl<T: HasPrimitiveArithmeticKernel> Beside<T> for Scalar<T> {
     }
 }
 
-/// Returns the number of row `i`.
+/// Returns the number in row `i` of `array`, converted to `u64`, or `NO_NUMBER` if the row is null
+/// or does not exist.
 #[inline(always)]
 pub(crate) fn row_of<T: NativeType + AsPrimitive<u64>>(array: &PrimitiveArray<T>, i: usize) -> u64 {
     let present = match array.validity() {
@@ -145,7 +147,7 @@ pub(crate) fn row_of<T: NativeType + AsPrimitive<u64>>(array: &PrimitiveArray<T>
     }
 }
 
-// Copies an array into one that owns its values.
+// Returns a copy of `array` that owns its values. The error is `Memory`.
 fn owned_copy<T: NativeType>(
     alloc: Global,
     array: &PrimitiveArray<T>,
@@ -157,7 +159,9 @@ fn owned_copy<T: NativeType>(
     or_unsupported(PrimitiveArray::try_new(Buffer::from_vec(values), validity))
 }
 
-// Runs an operation `repeats` times, each on the result of the last one, which owns its values.
+// Runs an operation `repeats` times, and returns the checksum. The first run gets a copy of `array`
+// that owns its values, and each later run the result of the run before. If a run fails, returns
+// its error.
 #[inline(always)]
 fn repeat_in_place<T: NativeType + AsPrimitive<u64>, B: Beside<T>>(
     alloc: Global,
@@ -178,7 +182,8 @@ fn repeat_in_place<T: NativeType + AsPrimitive<u64>, B: Beside<T>>(
     Ok(checksum)
 }
 
-// Runs an operation `repeats` times on a clone of one array, which shares its values.
+// Runs an operation `repeats` times, each time on a clone of `array` with shared values, and
+// returns the checksum. If a run fails, returns its error.
 #[inline(always)]
 fn repeat_anew<T: NativeType + AsPrimitive<u64>, B: Beside<T>>(
     alloc: Global,
@@ -196,7 +201,9 @@ fn repeat_anew<T: NativeType + AsPrimitive<u64>, B: Beside<T>>(
     Ok(checksum)
 }
 
-// Runs an operation in place or into new values. The checksum is 0 if a run fails.
+// Runs an operation `repeats` times on `array` and `beside`, and returns the checksum. If
+// `in_place` is true, each run gets the result of the run before, and otherwise a clone of `array`.
+// The checksum is 0 if a run fails.
 #[inline(always)]
 fn repeat<T: NativeType + AsPrimitive<u64>, B: Beside<T>>(
     alloc: Global,
@@ -213,8 +220,9 @@ fn repeat<T: NativeType + AsPrimitive<u64>, B: Beside<T>>(
     checksum.unwrap_or(0)
 }
 
-// Creates two validities of `len` bits: windows of the words, the second one a word later. Returns
-// `None` for both if there are no words.
+// Creates two bitmaps of `len` bits from a copy of `words`. The first begins at bit 0, and the
+// second 64 bits later. Returns `None` for both if `words` is empty. The error is `Unsupported` if
+// `words` is too short for the second one. Any other error is `Memory`.
 fn validities(
     alloc: Global,
     words: &[u64],
@@ -227,8 +235,10 @@ fn validities(
     Ok((Some(early), Some(late)))
 }
 
-// Creates two arrays of the values, converted to `T`. The bits of `words` are their validities,
-// unless it is empty.
+// Creates two arrays of `left` and `right`, converted to `T`. The validity of the left array begins
+// at bit 0 of `words`, and that of the right one 64 bits later. If `words` is empty, they have
+// none. The error is `Unsupported` if `words` is too short, or if it is not empty and the lengths
+// differ. Any other error is `Memory`.
 fn pair_of<T: NativeType>(
     alloc: Global,
     left: &[i64],
@@ -241,8 +251,9 @@ where
     two_arrays(alloc, left, right, validities(alloc, words, left.len())?)
 }
 
-// Creates an array of the values, converted to `T`. The first bits of `words` are its validity. It
-// has no validity if `words` is empty.
+// Creates an array of `values`, converted to `T`. The first bits of `words` are its validity. It
+// has none if `words` is empty. The error is `Unsupported` if `words` does not have at least 64
+// bits after those of the validity. Any other error is `Memory`.
 fn array_of<T: NativeType>(
     alloc: Global,
     values: &[i64],
@@ -254,7 +265,8 @@ where
     number_array(alloc, values, validity_from(alloc, words, 0, values.len())?)
 }
 
-// Runs an operation on two arrays.
+// Runs the `PairOperation` with the number `operation` on two arrays as `repeat` does, and returns
+// the checksum, or 0 if there is no such operation.
 fn choose_pairs<T: HasPrimitiveArithmeticKernel + AsPrimitive<u64>>(
     alloc: Global,
     operands: (&PrimitiveArray<T>, &PrimitiveArray<T>),
@@ -270,7 +282,8 @@ fn choose_pairs<T: HasPrimitiveArithmeticKernel + AsPrimitive<u64>>(
     )
 }
 
-// Runs an operation on one array, or on one and a number.
+// Runs the `LoneOperation` with the number `operation` on an array and a scalar as `repeat` does,
+// and returns the checksum, or 0 if there is no such operation.
 fn choose_lone<T: HasPrimitiveArithmeticKernel + AsPrimitive<u64>>(
     alloc: Global,
     operands: (&PrimitiveArray<T>, &Scalar<T>),
@@ -286,7 +299,9 @@ fn choose_lone<T: HasPrimitiveArithmeticKernel + AsPrimitive<u64>>(
     )
 }
 
-// Creates two arrays of one type, and runs an operation on them.
+// Creates two arrays of type `T` as `pair_of` does, runs the operation with the number `operation`
+// on them, and returns the checksum. If the arrays cannot be created, returns the error of
+// `pair_of`.
 fn time_pairs<T: HasPrimitiveArithmeticKernel + AsPrimitive<u64>>(
     alloc: Global,
     left: &[i64],
@@ -306,7 +321,9 @@ where
     Ok(checksum)
 }
 
-// Creates an array of one type, and runs an operation on it and the number.
+// Creates an array of type `T` as `array_of` does, runs the operation with the number `operation`
+// on it and on `scalar`, and returns the checksum. If the array cannot be created, returns the
+// error of `array_of`.
 fn time_lone<T: HasPrimitiveArithmeticKernel + AsPrimitive<u64>>(
     alloc: Global,
     values: &[i64],
@@ -327,10 +344,11 @@ where
     Ok(checksum)
 }
 
-/// Runs an operation on arrays of these numbers, converted to the type by truncation or extension.
-/// The right array shares its values. The validities are windows of the words, the right one a word
-/// later; without words no row is null. In place, the left array owns its values, and each run gets
-/// the result of the last one.
+/// Runs an operation on arrays of `left` and `right`, converted to the type with the number
+/// `number_type` by truncation or extension. The validity of the left array begins at bit 0 of
+/// `words`, and that of the right one 64 bits later. If `words` is empty, no row is null. If
+/// `in_place` is true, the left array owns its values, and each later run gets the result of the
+/// run before as its left array. The values of the right array are shared.
 #[unsafe(no_mangle)]
 pub extern "C" fn polars_time_pairs(
     alloc: Global,
@@ -349,7 +367,8 @@ pub extern "C" fn polars_time_pairs(
     checksum.unwrap_or(0)
 }
 
-/// Runs an operation on an array of these numbers and on a number, as `polars_time_pairs` does.
+/// Runs an operation on an array of `values`, and on `scalar` if the operation needs a number. The
+/// parameters mean what they mean in `polars_time_pairs`, and the array is its left array.
 #[unsafe(no_mangle)]
 pub extern "C" fn polars_time_lone(
     alloc: Global,

@@ -37,7 +37,8 @@ impl Timed for Bitmaps {
     }
 }
 
-// Runs a kernel on two triples of bitmaps in turn.
+// Runs the kernel with the number `kernel` `repeats` times, on the two triples of bitmaps in
+// `operands` in turn, and returns the checksum, or 0 if there is no such kernel.
 fn time_pair(alloc: Global, operands: (&Bitmaps, &Bitmaps), kernel: u32, repeats: usize) -> u64 {
     by_number!(
         kernel,
@@ -47,8 +48,9 @@ fn time_pair(alloc: Global, operands: (&Bitmaps, &Bitmaps), kernel: u32, repeats
     )
 }
 
-/// Runs a kernel on bitmaps of `len` bits, which begin at bits `shift`, `2 * shift` and `3 * shift`
-/// of the words.
+/// Runs a kernel on two triples of bitmaps of `len` bits in turn. The first triple begins at bit
+/// `shift` of `first`, bit `2 * shift` of `second` and bit `3 * shift` of `third`, and the second
+/// triple 64 bits later.
 #[unsafe(no_mangle)]
 pub extern "C" fn polars_time_bitmaps(
     alloc: Global,

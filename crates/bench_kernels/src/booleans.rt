@@ -20,7 +20,7 @@ pub(crate) enum TruthKernel {
     Distinct,
 }
 
-// Returns the truth value as a number, if there is one.
+// Returns the truth value `found` as 0 or 1, or `NO_BIT` if there is none.
 #[inline(always)]
 fn number_of(found: Option<bool>) -> u64 {
     match found {
@@ -46,7 +46,8 @@ impl Timed for Truths {
     }
 }
 
-// Runs a kernel on two pairs of arrays in turn.
+// Runs the kernel with the number `kernel` `repeats` times, on the two pairs of arrays in
+// `operands` in turn, and returns the checksum, or 0 if there is no such kernel.
 fn time_pair(alloc: Global, operands: (&Truths, &Truths), kernel: u32, repeats: usize) -> u64 {
     by_number!(
         kernel,
@@ -56,8 +57,8 @@ fn time_pair(alloc: Global, operands: (&Truths, &Truths), kernel: u32, repeats: 
     )
 }
 
-/// Runs a kernel on arrays of `len` truth values, which begin at bits `shift` and `2 * shift` of
-/// the words.
+/// Runs a kernel on two pairs of arrays of `len` truth values in turn. The first pair begins at bit
+/// `shift` of `left` and at bit `2 * shift` of `right`, and the second pair 64 bits later.
 #[unsafe(no_mangle)]
 pub extern "C" fn polars_time_truths(
     alloc: Global,

@@ -13,14 +13,16 @@ pub(crate) enum ColumnKernel {
     TotEq,
 }
 
-/// The columns of two tables.
+/// The columns of two tables. A kernel runs on each column of `left` and the column of `right` at
+/// the same index.
 #[derive(Drop)]
 struct Columns<'a> {
     left: &'a [PrimitiveArray<i32>],
     right: &'a [PrimitiveArray<i32>],
 }
 
-// Runs a kernel on two columns, and returns bit `i` of its result.
+// Runs a kernel on two columns, and returns bit `i` of its result as a number. Returns 0 if the
+// columns cannot be compared.
 #[inline(always)]
 fn run_column(
     alloc: Global,
@@ -51,7 +53,9 @@ impl Timed for Columns<'_> {
     }
 }
 
-// Runs a kernel on the columns in the numbers.
+// Creates columns of `rows` numbers each from `left` and from `right`, runs the kernel with the
+// number `kernel` on them `repeats` times, and returns the checksum, or 0 if there is no such
+// kernel. The error is `Memory`.
 fn time_columns(
     alloc: Global,
     left: &[i32],
@@ -73,7 +77,8 @@ fn time_columns(
     Ok(checksum)
 }
 
-/// Runs a kernel on columns of equal length, which follow one another in the numbers.
+/// Runs a kernel on the columns of two tables. Each column has `rows` numbers, and the columns of a
+/// table follow one another in `left` or `right`.
 #[unsafe(no_mangle)]
 pub extern "C" fn polars_time_columns(
     alloc: Global,

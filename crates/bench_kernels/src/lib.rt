@@ -1,14 +1,19 @@
 //! The kernels as a static library, for `bench/` to time beside plain Rust.
 //!
-//! There is one entry point for each shape of operands. Its parameters are the slices that its
-//! operands are made of, then the number of the kernel and, if operands of several types are
-//! possible, of the type: its place in the enum. It creates its operands once, runs the kernel
-//! `repeats` times, and returns a checksum of one bit or of the count of each run. It returns 0 if
-//! there is no such kernel, type or operands. With `repeats` 0 it only creates the operands.
+//! There is one entry point for each shape of operands. Its parameters are first the slices from
+//! which the operands are made, and a scalar where kernels need one. Then come the number of the
+//! kernel and, if operands can have several types, the number of the type. These numbers are
+//! discriminants of enums such as `NumberKernel` and `NumberType`.
+//!
+//! An entry point creates its operands once, runs the kernel `repeats` times, and returns a
+//! checksum of one number from each run, such as a bit of the result or a count. It returns 0 if
+//! there is no such kernel or type, if the operands cannot be created, or if an operation of
+//! `arithmetic` fails. With `repeats` 0 it only creates the operands, and returns 0.
 #![tactic(auto)]
 
-/// Evaluates an expression for the entry of an enum with a given number. Each entry has its own
-/// code, so that a loop in the expression has its kernel chosen before it begins.
+/// Evaluates the expression `$said` with `$chosen` bound to the entry of the enum `$entries` whose
+/// discriminant is `$number`, or `$otherwise` if no listed entry has it. The expression is compiled
+/// once for each entry, so that a loop in it has its kernel chosen before it begins.
 macro_rules! by_number {
     ($number:expr, $entries:ident: $($entry:ident)*, |$chosen:ident| $said:expr, $otherwise:expr) =>
         {
@@ -22,7 +27,8 @@ macro_rules! by_number {
     };
 }
 
-/// Calls a function for the number type with a given number. The checksum is 0 if there is none.
+/// Calls the function `$called` for the type of numbers with the number `$number` in `NumberType`,
+/// and returns its result. The result is `Ok(0)` if this is not `I8`, `I32`, `I64` or `I128`.
 macro_rules! at_number_type {
     ($number:expr, $called:ident $arguments:tt) => {
         at_type!(
@@ -33,8 +39,8 @@ macro_rules! at_number_type {
     };
 }
 
-/// Calls a function for the number type with arithmetic that has a given number. The checksum is 0
-/// if there is none.
+/// Calls the function `$called` for the integer type with the number `$number` in `NumberType`, and
+/// returns its result. The result is `Ok(0)` if there is no such type, or if it is `I128`.
 macro_rules! at_integer_type {
     ($number:expr, $called:ident $arguments:tt) => {
         at_type!(
@@ -46,8 +52,9 @@ macro_rules! at_integer_type {
     };
 }
 
-/// Calls a function for the type that belongs to the entry of an enum with a given number. The
-/// checksum is 0 if there is none.
+/// Calls the function `$called` for the type that is listed for the entry of `$entries` with the
+/// number `$number`, and returns its result. The result is `Ok(0)` if no listed entry has this
+/// number.
 macro_rules! at_type {
     ($number:expr, $entries:ident: $($entry:ident = $type:ty),*; $called:ident $arguments:tt) => {
         match $number {
@@ -75,13 +82,16 @@ use polars_arrays_bits::bitmap::Bitmap;
 use polars_arrays_bits::error::ComputeError;
 use std::alloc::Global;
 
-/// The result of `bit_of` if there is no such bit.
+/// The number that stands for a missing result: a bit that a bitmap does not have, or a truth value
+/// or string that a kernel did not find.
 const NO_BIT: u64 = 2;
 
-/// The result of `bit_of` if there is no bitmap.
+/// The number that stands for the result of a kernel that failed, or that does not exist for the
+/// type of the operands.
 const NO_BITMAP: u64 = 3;
 
-// Returns bit `i` of a kernel's result.
+// Returns bit `i` of the bitmap `made` as 0 or 1. Returns `NO_BIT` if there is no such bit, and
+// `NO_BITMAP` if `made` is an error.
 #[inline(always)]
 pub(crate) fn bit_of(made: Result<Bitmap, ComputeError>, i: usize) -> u64 {
     match made {
@@ -95,15 +105,18 @@ pub(crate) fn bit_of(made: Result<Bitmap, ComputeError>, i: usize) -> u64 {
 
 /// Operands of one shape, on which kernels are timed.
 pub(crate) trait Timed {
-    /// The type of kernels that run on them.
+    /// The type of kernels that run on these operands.
     type Kernel: Copy;
 
-    /// Runs a kernel once, and returns bit `i` of its result, or its count.
+    /// Runs `kernel` once, and returns a number from its result: bit or row `i`, or if the result
+    /// is a single value, a number for this value.
     fn run(&self, alloc: Global, kernel: Self::Kernel, i: usize) -> u64;
 }
 
-// Runs a kernel `repeats` times, on two sets of operands in turn, and each time for the next bit of
-// its result. Inlined for one kernel, its loop chooses nothing.
+// Runs `kernel` `repeats` times, on the operands `first` and `second` in turn, and returns a
+// checksum of the numbers that the runs return. The runs on each of them ask for bit 0 of the
+// result, then for bit 1, and so on. Inlined for one kernel, the loop has no choice of a kernel in
+// it.
 #[inline(always)]
 pub(crate) fn repeat<X: Timed>(
     alloc: Global,

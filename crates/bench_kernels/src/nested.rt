@@ -18,7 +18,7 @@ enum NestedKernel {
     TotEqMissing,
 }
 
-// Runs a kernel, and returns bit `i` of its result.
+// Runs a kernel on two arrays, and returns bit `i` of its result as a number.
 #[inline(always)]
 fn run_nested(
     alloc: Global,
@@ -38,7 +38,9 @@ fn run_nested(
     bit_of(made, i)
 }
 
-// Runs a kernel on two arrays and on clones of them in turn.
+// Runs a kernel `repeats` times, on two arrays and on clones of them in turn, and returns the
+// checksum. The error is `Unsupported` if the types or the lengths of the arrays differ. Any other
+// error is `Memory`.
 #[inline(always)]
 fn repeat_nested(
     alloc: Global,
@@ -67,7 +69,9 @@ fn repeat_nested(
     Ok(checksum)
 }
 
-// Runs a kernel on the arrays that the parts make.
+// Creates arrays of type `nested_type` from `left` and `right`, runs the kernel with the number
+// `kernel` on them `repeats` times, and returns the checksum. The error is `Unsupported` if there
+// is no such kernel, or if the arrays cannot be created or compared. Any other error is `Memory`.
 fn time_nested(
     alloc: Global,
     left: &Parts,
@@ -86,7 +90,9 @@ fn time_nested(
     )
 }
 
-/// Runs a kernel on arrays of a type, which are made of parts as `NestedType` describes.
+/// Runs a kernel on two nested arrays. `nested_type` is a number of `NestedType`, which describes
+/// how an array is made of `size` and of its offsets, items, words of a validity (`present`) and
+/// bytes.
 #[unsafe(no_mangle)]
 pub extern "C" fn polars_time_nested(
     alloc: Global,

@@ -23,23 +23,27 @@ use std::alloc::Global;
 /// The type of an array, and the use of its parts.
 #[derive(Clone, Copy)]
 pub(crate) enum NestedType {
-    /// Lists of the items between the offsets. A list is null if its bit of the words is not set.
+    /// Lists of the numbers in `items`, between the offsets in `offsets`. A list is null if its bit
+    /// of `present` is 0.
     Lists,
-    /// Lists of `size` items each.
+    /// Lists of `size` numbers each from `items`.
     FixedLists,
-    /// Columns of `size` rows each, one after the other in the items, and then, if there are
-    /// offsets, a column of the texts between the offsets in the bytes.
+    /// Structs of columns of `size` rows each. The columns follow one another in `items`. If
+    /// `offsets` is not empty, a last column has the texts between these offsets in `bytes`. A text
+    /// is null if its bit of `present` is 0.
     Structs,
-    /// Keys into texts between the offsets in the bytes. The items are the keys. A text is null if
-    /// its bit of the words is not set.
+    /// Dictionaries with the keys `items`. The entries are the texts between `offsets` in `bytes`.
+    /// An entry is null if its bit of `present` is 0.
     Dictionaries,
-    /// The first item, in `size` levels of lists of one row.
+    /// A single row: the first number of `items`, inside `size` levels of lists of one row.
     DeepLists,
-    /// Lists of texts between the offsets in the bytes. The items are the offsets of the lists.
+    /// Lists of the texts between `offsets` in `bytes`. The offsets of the lists are in `items`. A
+    /// text is null if its bit of `present` is 0.
     TextLists,
 }
 
-/// The parts of an array. Each type uses some of them.
+/// The parts of an array. `NestedType` says which of them each type uses, and what for. The bits of
+/// `present` are a validity. If it is empty, there is none.
 #[derive(Drop)]
 pub(crate) struct Parts<'a> {
     pub(crate) size: usize,
@@ -49,7 +53,8 @@ pub(crate) struct Parts<'a> {
     pub(crate) bytes: &'a [u8],
 }
 
-// Copies the words as the bits of `rows` rows, or returns `None` if there are no words.
+// Creates a bitmap of the first `rows` bits of a copy of `words`. Returns `None` if `words` is
+// empty. The error is `Unsupported` if `words` has too few bits. Any other error is `Memory`.
 fn validity(alloc: Global, words: &[u64], rows: usize) -> Result<Option<Bitmap>, ComputeError> {
     if words.is_empty() {
         return Ok(None);
@@ -61,7 +66,8 @@ fn validity(alloc: Global, words: &[u64], rows: usize) -> Result<Option<Bitmap>,
     Ok(Some(Bitmap::from_words(words, 0, rows)))
 }
 
-/// Puts a value in a box, unless there is an error.
+/// Puts the value of `made` in a box. If `made` is an error, returns it. Otherwise the error is
+/// `Memory`.
 pub(crate) fn boxed<T: Drop>(
     alloc: Global,
     made: Result<T, ComputeError>,
@@ -72,7 +78,7 @@ pub(crate) fn boxed<T: Drop>(
     Ok(boxed)
 }
 
-// Puts an array in a box.
+// Puts `array` in a box. The error is `Memory`.
 fn boxed_array(alloc: Global, array: AnyArray) -> Result<Box<AnyArray>, ComputeError>
     requires { IsGood array }
     ensures { IfOk result (λ a. IsGood a.value) }
@@ -81,14 +87,15 @@ fn boxed_array(alloc: Global, array: AnyArray) -> Result<Box<AnyArray>, ComputeE
     Ok(array)
 }
 
-// Creates an array of the numbers.
+// Creates an array of the numbers in `items`, without a validity. The error is `Memory`.
 fn item_array(alloc: Global, items: &[i32]) -> Result<Box<AnyArray>, ComputeError>
     ensures { IfOk result (λ a. IsGood a.value) }
 {
     boxed(alloc, number_array(alloc, items, None).map(AnyArray::Int32))
 }
 
-// Creates lists of the items between the offsets.
+// Creates an array of lists of the rows of `items` between `offsets`. The error is `Unsupported` if
+// the offsets, the items and the validity make no array. Any other error is `Memory`.
 fn lists_of(
     alloc: Global,
     offsets: Buffer<i32>,
@@ -102,7 +109,8 @@ fn lists_of(
     boxed(alloc, or_unsupported(lists).map(AnyArray::List))
 }
 
-// Creates lists of numbers between offsets. None is null if there are no words.
+// Creates the array of type `Lists` from `parts`. The error is `Unsupported` if these make no
+// array. Any other error is `Memory`.
 fn list_array(alloc: Global, parts: &Parts) -> Result<Box<AnyArray>, ComputeError>
     ensures { IfOk result (λ a. IsGood a.value) }
 {
@@ -111,7 +119,8 @@ fn list_array(alloc: Global, parts: &Parts) -> Result<Box<AnyArray>, ComputeErro
     lists_of(alloc, shared(alloc, parts.offsets)?, items, validity)
 }
 
-// Creates lists of one width of numbers. The items after the last whole list are dropped.
+// Creates an array of lists of `width` numbers each from `items`. Drops the numbers after the last
+// whole list, and all numbers if `width` is 0. The error is `Memory`.
 fn fixed_list_array(
     alloc: Global,
     width: usize,
@@ -125,18 +134,20 @@ fn fixed_list_array(
     boxed(alloc, or_unsupported(lists).map(AnyArray::FixedSizeList))
 }
 
-// Returns the number of columns of `rows` rows in the numbers.
+// Returns the number of whole columns of `rows` numbers in `values`, or 0 if `rows` is 0.
 fn column_count(rows: usize, values: &[i32]) -> usize {
     values.len().checked_div(rows).unwrap_or(0)
 }
 
-// Returns column `k` of `rows` rows in the numbers.
+// Returns column `k` of `values`, in which columns of `rows` numbers follow one another. Returns an
+// empty slice if there is no such column.
 fn column(rows: usize, values: &[i32], k: usize) -> &[i32] {
     let first = rows.saturating_mul(k);
     values.get(first..first.saturating_add(rows)).unwrap_or(&[])
 }
 
-/// Creates the columns of `rows` rows in the numbers.
+/// Creates an array for each whole column in `values`, in which columns of `rows` numbers follow
+/// one another. The error is `Memory`.
 pub(crate) fn columns(
     alloc: Global,
     rows: usize,
@@ -152,7 +163,8 @@ pub(crate) fn columns(
     Ok(columns)
 }
 
-// Creates column `k` of `rows` rows as an array of any kind.
+// Creates an array of column `k` of `values`, in which columns of `rows` numbers follow one
+// another. The error is `Memory`.
 fn column_array(
     alloc: Global,
     rows: usize,
@@ -164,7 +176,9 @@ fn column_array(
     number_array(alloc, column(rows, values, k), None).map(AnyArray::Int32)
 }
 
-// Appends a column of the texts, if there are offsets.
+// Appends a column of the texts in `parts` to `columns`, and its field to `fields`. Does nothing if
+// `parts.offsets` is empty. The error is `Unsupported` if the parts make no array of texts. Any
+// other error is `Memory`.
 fn push_texts(
     alloc: Global,
     fields: &mut Vec<Field>,
@@ -184,7 +198,8 @@ fn push_texts(
     Ok(())
 }
 
-// Creates structs of the columns in the items, and of the texts.
+// Creates the array of type `Structs` from `parts`. The error is `Unsupported` if these make no
+// array. Any other error is `Memory`.
 fn struct_array(alloc: Global, parts: &Parts) -> Result<Box<AnyArray>, ComputeError>
     ensures { IfOk result (λ a. IsGood a.value) }
 {
@@ -202,7 +217,9 @@ fn struct_array(alloc: Global, parts: &Parts) -> Result<Box<AnyArray>, ComputeEr
     boxed_array(alloc, AnyArray::Struct(array))
 }
 
-// Creates texts between offsets. None is null if there are no words.
+// Creates an array of the texts between `parts.offsets` in `parts.bytes`. A text is null if its bit
+// of `parts.present` is 0. The error is `Unsupported` if the parts make no array. Any other error
+// is `Memory`.
 fn text_array(alloc: Global, parts: &Parts) -> Result<AnyArray, ComputeError>
     ensures { IfOk result (λ a. IsGood a) }
 {
@@ -210,7 +227,8 @@ fn text_array(alloc: Global, parts: &Parts) -> Result<AnyArray, ComputeError>
     texts(alloc, parts.offsets, parts.bytes, validity).map(AnyArray::Utf8)
 }
 
-// Creates lists of texts.
+// Creates the array of type `TextLists` from `parts`. The error is `Unsupported` if these make no
+// array. Any other error is `Memory`.
 fn text_list_array(alloc: Global, parts: &Parts) -> Result<Box<AnyArray>, ComputeError>
     ensures { IfOk result (λ a. IsGood a.value) }
 {
@@ -218,7 +236,8 @@ fn text_list_array(alloc: Global, parts: &Parts) -> Result<Box<AnyArray>, Comput
     lists_of(alloc, shared(alloc, parts.items)?, texts, None)
 }
 
-// Creates a dictionary array of texts between offsets.
+// Creates the array of type `Dictionaries` from `parts`. The error is `Unsupported` if these make
+// no array. Any other error is `Memory`.
 fn dictionary_array(alloc: Global, parts: &Parts) -> Result<Box<AnyArray>, ComputeError>
     ensures { IfOk result (λ a. IsGood a.value) }
 {
@@ -228,7 +247,8 @@ fn dictionary_array(alloc: Global, parts: &Parts) -> Result<Box<AnyArray>, Compu
     boxed(alloc, or_unsupported(rows).map(AnyArray::Dictionary))
 }
 
-// Wraps all rows of an array in one list.
+// Creates an array with one list, which has the first row of `items`. The error is `Unsupported` if
+// `items` has no row. Any other error is `Memory`.
 fn listed(alloc: Global, items: Box<AnyArray>) -> Result<Box<AnyArray>, ComputeError>
     requires { IsGood items.value }
     ensures { IfOk result (λ a. IsGood a.value) }
@@ -237,7 +257,8 @@ fn listed(alloc: Global, items: Box<AnyArray>) -> Result<Box<AnyArray>, ComputeE
     lists_of(alloc, Buffer::from_vec(offsets), items, None)
 }
 
-// Wraps a number in `levels` levels of lists of one row.
+// Creates an array whose only row is `value` inside `levels` levels of lists of one row. The error
+// is `Memory`.
 fn deep_list_array(alloc: Global, levels: usize, value: i32) -> Result<Box<AnyArray>, ComputeError>
     ensures { IfOk result (λ a. IsGood a.value) }
 {
@@ -248,7 +269,8 @@ fn deep_list_array(alloc: Global, levels: usize, value: i32) -> Result<Box<AnyAr
     Ok(array)
 }
 
-/// Creates the array of a type from its parts.
+/// Creates the array of type `nested_type` from `parts`. The error is `Unsupported` if these make
+/// no array. Any other error is `Memory`.
 pub(crate) fn nested_array(
     alloc: Global,
     nested_type: NestedType,

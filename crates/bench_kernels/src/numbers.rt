@@ -10,7 +10,7 @@ use polars_compare_equality::kernel::TotalEqKernel;
 use polars_compare_order::kernel::TotalOrdKernel;
 use std::alloc::Global;
 
-/// A kernel on two arrays of numbers, or on one and a scalar.
+/// A kernel on two arrays of numbers, or on the left one and a scalar.
 #[derive(Clone, Copy)]
 pub(crate) enum NumberKernel {
     TotEq,
@@ -37,7 +37,8 @@ impl<T: NativeType> Timed for Numbers<'_, T> {
     }
 }
 
-// Runs a kernel on two pairs of arrays in turn.
+// Runs the kernel with the number `kernel` `repeats` times, on the two pairs of arrays in
+// `operands` in turn, and returns the checksum, or 0 if there is no such kernel.
 fn time_pairs<T: NativeType>(
     alloc: Global,
     operands: (&Numbers<T>, &Numbers<T>),
@@ -60,7 +61,9 @@ fn clones_of<T: NativeType>(
     both(arrays.0.clone_array(alloc), arrays.1.clone_array(alloc))
 }
 
-// Runs a kernel on two arrays and on clones of them in turn.
+// Runs the kernel with the number `kernel` `repeats` times, on two arrays and on clones of them in
+// turn, and returns the checksum. The error is `Unsupported` if the arrays cannot be compared. Any
+// other error is `Memory`.
 fn time_clones<T: NativeType>(
     alloc: Global,
     arrays: &(PrimitiveArray<T>, PrimitiveArray<T>),
@@ -74,7 +77,10 @@ fn time_clones<T: NativeType>(
     Ok(time_pairs(alloc, (&first, &second), kernel, repeats))
 }
 
-// Runs a kernel on arrays of one type.
+// Converts `left`, `right` and `scalar` to the type `T`, runs the kernel with the number `kernel`
+// on them `repeats` times, and returns the checksum. The validity of the left array begins at bit
+// `shift` of `validities`, and that of the right one 64 bits later. The error is `Unsupported` if
+// `validities` is too short, or if the lengths differ. Any other error is `Memory`.
 fn time_numbers<T: NativeType>(
     alloc: Global,
     left: &[i64],
@@ -93,9 +99,9 @@ where
     time_clones::<T>(alloc, &arrays, &scalar.as_(), kernel, repeats)
 }
 
-/// Runs a kernel on arrays of these numbers, converted to the type by truncation or extension. The
-/// validities are windows of the words: the left one begins at bit `shift`, and the right one a
-/// word later.
+/// Runs a kernel on arrays of `left` and `right`, and on `scalar`. All numbers are converted to the
+/// type with the number `number_type`, by truncation or extension. The validity of the left array
+/// begins at bit `shift` of `validities`, and that of the right one 64 bits later.
 #[unsafe(no_mangle)]
 pub extern "C" fn polars_time_numbers(
     alloc: Global,

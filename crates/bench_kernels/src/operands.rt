@@ -14,10 +14,10 @@ use polars_arrays_numbers::native_type::NativeType;
 use polars_compare_equality::kernel::TotalEqKernel;
 use std::alloc::{AllocError, Global};
 
-/// The distance of the two windows of one operand, in bits.
+/// The distance between the beginnings of the two windows of one operand, in bits.
 const STRIDE: usize = 64;
 
-/// A type of numbers.
+/// A type of numbers. Entry points take its discriminant as a parameter.
 pub(crate) enum NumberType {
     I8,
     I32,
@@ -30,7 +30,7 @@ pub(crate) enum NumberType {
     U64,
 }
 
-/// Two slices of numbers of equal length, and a number.
+/// Two slices of numbers of equal length, and a number with which kernels compare the left slice.
 #[derive(Drop)]
 pub(crate) struct Slices<'a, T: NativeType> {
     pub(crate) left: &'a [T],
@@ -49,7 +49,7 @@ pub(crate) struct Bitmaps {
     ghost third_long: { length third ≡ length first },
 }
 
-/// Two arrays of numbers of equal length, and a number.
+/// Two arrays of numbers of equal length, and a number with which kernels compare the left array.
 #[derive(Drop)]
 pub(crate) struct Numbers<'a, T: NativeType> {
     pub(crate) left: &'a PrimitiveArray<T>,
@@ -69,14 +69,14 @@ pub(crate) struct Truths {
     ghost as_long: { length (truth_slots right.values) ≡ length (truth_slots left.values) },
 }
 
-/// Copies a slice into a shared buffer.
+/// Copies a slice into a shared buffer. The error is `Memory`.
 pub(crate) fn shared<T: Copy>(alloc: Global, elements: &[T]) -> Result<Buffer<T>, ComputeError>
     ensures { IfOk result (λ buffer. buffer.items ≡ elements.now) }
 {
     Buffer::from_vec(Vec::from_slice(alloc, elements)?).share(alloc)
 }
 
-/// Returns the array that parts make. The error is `Unsupported`, if they make none.
+/// Returns the array of `made`. If `made` is an error, the error is `Unsupported`.
 pub(crate) fn or_unsupported<A: Drop>(made: Result<A, ArrayError>) -> Result<A, ComputeError>
     ensures { IfOk result (λ a. made ≡ Ok a) }
 {
@@ -86,7 +86,8 @@ pub(crate) fn or_unsupported<A: Drop>(made: Result<A, ArrayError>) -> Result<A, 
     }
 }
 
-/// Returns both values. The error is the first one's, or else the second one's.
+/// Returns both values. If `first` is an error, returns it, and else the error of `second`, if
+/// there is one.
 pub(crate) fn both<A: Drop, B: Drop>(
     first: Result<A, ComputeError>,
     second: Result<B, ComputeError>,
@@ -96,7 +97,7 @@ pub(crate) fn both<A: Drop, B: Drop>(
     Ok((first, second))
 }
 
-/// Appends a value, unless there is an error.
+/// Appends the value of `made` to `items`. If `made` is an error, returns it and appends nothing.
 pub(crate) fn push<T: Drop>(
     items: &mut Vec<T>,
     made: Result<T, ComputeError>,
@@ -107,8 +108,9 @@ pub(crate) fn push<T: Drop>(
     Ok(())
 }
 
-/// Creates two windows of `len` bits of a copy of the words: one from bit `at` on, and one a word
-/// later. The error is `Unsupported` if the words are too few for the later window.
+/// Creates two bitmaps of `len` bits from a copy of `words`. The first begins at bit `at`, and the
+/// second 64 bits later. The error is `Unsupported` if `words` is too short for the second one. Any
+/// other error is `Memory`.
 pub(crate) fn windows(
     alloc: Global,
     words: &[u64],
@@ -128,10 +130,10 @@ pub(crate) fn windows(
     Ok((early, late))
 }
 
-/// Creates two triples of windows of `len` bits. The windows of the first triple begin at bit
+/// Creates two triples of bitmaps of `len` bits. The bitmaps of the first triple begin at bit
 /// `shift` of a copy of `first`, at bit `2 * shift` of a copy of `second`, and at bit `3 * shift`
-/// of a copy of `third`. Those of the second triple begin a word later. The error is `Unsupported`
-/// if a slice is too short for its later window.
+/// of a copy of `third`. Those of the second triple begin 64 bits later. The error is `Unsupported`
+/// if a slice is too short for its later bitmap. Any other error is `Memory`.
 pub(crate) fn in_two_places(
     alloc: Global,
     first: &[u64],
@@ -157,7 +159,7 @@ pub(crate) fn in_two_places(
     ))
 }
 
-/// Converts numbers to another type, by truncation or extension.
+/// Converts `values` to the type `T`, by truncation or extension.
 pub(crate) fn converted<C: AsPrimitive<T>, T: NativeType>(
     alloc: Global,
     values: &[C],
@@ -169,7 +171,7 @@ pub(crate) fn converted<C: AsPrimitive<T>, T: NativeType>(
     Ok(made)
 }
 
-// Converts numbers to another type, into a shared buffer.
+// Converts `values` to the type `T`, and returns them as a shared buffer.
 fn shared_numbers<C: AsPrimitive<T>, T: NativeType>(
     alloc: Global,
     values: &[C],
@@ -177,7 +179,9 @@ fn shared_numbers<C: AsPrimitive<T>, T: NativeType>(
     Buffer::from_vec(converted(alloc, values)?).share(alloc)
 }
 
-/// Creates an array of the numbers in another type, whose values clones share.
+/// Creates an array of `values`, converted to the type `T`. Clones of the array share its values.
+/// The error is `Unsupported` if `validity` has another length than `values`. Any other error is
+/// `Memory`.
 pub(crate) fn number_array<C: AsPrimitive<T>, T: NativeType>(
     alloc: Global,
     values: &[C],
@@ -187,7 +191,9 @@ pub(crate) fn number_array<C: AsPrimitive<T>, T: NativeType>(
     or_unsupported(PrimitiveArray::try_new(values, validity))
 }
 
-/// Creates two arrays of the numbers in another type, each with its validity.
+/// Creates an array of `left` with the validity `early`, and one of `right` with the validity
+/// `late`. The numbers are converted to the type `T`. The error is `Unsupported` if a validity has
+/// another length than its slice. Any other error is `Memory`.
 pub(crate) fn two_arrays<T: NativeType>(
     alloc: Global,
     left: &[i64],
@@ -201,7 +207,8 @@ where
     both(left, number_array(alloc, right, late))
 }
 
-/// Pairs two arrays that can be compared, and a number. The error is `Unsupported`, if they cannot.
+/// Returns operands with these two arrays and this scalar. The error is `Unsupported` if the arrays
+/// cannot be compared, or their lengths differ.
 pub(crate) fn comparable_numbers<'a, T: NativeType>(
     left: &'a PrimitiveArray<T>,
     right: &'a PrimitiveArray<T>,
@@ -217,8 +224,8 @@ pub(crate) fn comparable_numbers<'a, T: NativeType>(
     })
 }
 
-// Pairs two arrays of truth values that can be compared. The error is `Unsupported`, if they
-// cannot.
+// Creates operands: two arrays whose values are `left` and `right`, without validities. The error
+// is `Unsupported` if the lengths differ.
 fn comparable_truths(left: Bitmap, right: Bitmap) -> Result<Truths, ComputeError> {
     let left = or_unsupported(BooleanArray::try_new(left, None))?;
     let right = or_unsupported(BooleanArray::try_new(right, None))?;
@@ -228,7 +235,8 @@ fn comparable_truths(left: Bitmap, right: Bitmap) -> Result<Truths, ComputeError
     Ok(Truths { left, right })
 }
 
-// Pairs the early and the late windows of two operands as arrays.
+// Creates two operands: one with the arrays `left` and `right`, and one with the arrays
+// `later_left` and `later_right`. The error is `Unsupported` if the two lengths in a pair differ.
 fn two_truths(
     (left, later_left): (Bitmap, Bitmap),
     (right, later_right): (Bitmap, Bitmap),
@@ -238,8 +246,10 @@ fn two_truths(
     Ok((early, later))
 }
 
-/// Creates two pairs of arrays of `len` truth values. In the first one the values begin at bits
-/// `shift` and `2 * shift` of copies of the words, and in the second one a word later.
+/// Creates two pairs of arrays of `len` truth values. The values of the first pair begin at bit
+/// `shift` of a copy of `left`, and at bit `2 * shift` of a copy of `right`. Those of the second
+/// pair begin 64 bits later. The error is `Unsupported` if a slice is too short for its later
+/// array. Any other error is `Memory`.
 pub(crate) fn truths_in_two_places(
     alloc: Global,
     left: &[u64],

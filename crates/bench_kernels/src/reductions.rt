@@ -49,7 +49,7 @@ impl<T: BitNumber + WrappingSum + AsPrimitive<u64>> Timed for PrimitiveArray<T> 
     }
 }
 
-// Returns the number, if there is one.
+// Returns the number `found`, converted to `u64`, or `NO_NUMBER` if there is none.
 #[inline(always)]
 fn number_of<T: NativeType + AsPrimitive<u64>>(found: Option<T>) -> u64 {
     match found {
@@ -58,7 +58,7 @@ fn number_of<T: NativeType + AsPrimitive<u64>>(found: Option<T>) -> u64 {
     }
 }
 
-// Returns both numbers as one, if there are any.
+// Returns one number computed from both numbers of `found`, or `NO_NUMBER` if there are none.
 #[inline(always)]
 fn pair_of<T: NativeType + AsPrimitive<u64>>(found: Option<(T, T)>) -> u64 {
     match found {
@@ -70,7 +70,8 @@ fn pair_of<T: NativeType + AsPrimitive<u64>>(found: Option<(T, T)>) -> u64 {
     }
 }
 
-// Returns the count of row `i`.
+// Returns the count in row `i` of `made`. Returns `NO_NUMBER` if this row is null or does not
+// exist, or if `made` is an error.
 #[inline(always)]
 fn count_of(made: Result<PrimitiveArray<u32>, ComputeError>, i: usize) -> u64 {
     match made {
@@ -79,7 +80,8 @@ fn count_of(made: Result<PrimitiveArray<u32>, ComputeError>, i: usize) -> u64 {
     }
 }
 
-// Runs a kernel on an array and on its clone in turn.
+// Runs the kernel with the number `kernel` `repeats` times, on the two arrays in turn, and returns
+// the checksum, or 0 if there is no such kernel.
 fn time_clones<T: BitNumber + WrappingSum + AsPrimitive<u64>>(
     alloc: Global,
     arrays: (&PrimitiveArray<T>, &PrimitiveArray<T>),
@@ -95,9 +97,10 @@ fn time_clones<T: BitNumber + WrappingSum + AsPrimitive<u64>>(
     )
 }
 
-// Creates a bitmap of the `len` bits of a copy of the words from bit `at` on. Returns `Ok(None)` if
-// there are no words. The error is `Unsupported` if the words don't have at least 64 bits after the
-// bitmap's last one, since `windows` also creates a bitmap that begins 64 bits later.
+// Creates a bitmap of the `len` bits of a copy of `words` from bit `at` on. Returns `Ok(None)` if
+// `words` is empty. The error is `Unsupported` if `words` does not have at least 64 bits after the
+// bitmap's last one, since `windows` also creates a bitmap that begins 64 bits later. Any other
+// error is `Memory`.
 pub(crate) fn validity_from(
     alloc: Global,
     words: &[u64],
@@ -111,7 +114,9 @@ pub(crate) fn validity_from(
     Ok(Some(validity))
 }
 
-// Creates an array of one type, and its clone.
+// Creates an array of `values`, converted to `T`, and a clone of it. The validity begins at bit
+// `shift` of `validities`. If this slice is empty, the array has none. The error is `Unsupported`
+// if `validities` is too short. Any other error is `Memory`.
 fn array_and_clone<T: NativeType>(
     alloc: Global,
     values: &[i64],
@@ -127,7 +132,9 @@ where
     both(Ok(array), clone)
 }
 
-// Runs a kernel on an array of one type.
+// Creates an array of type `T` and a clone as `array_and_clone` does, runs the kernel with the
+// number `kernel` on them in turn, `repeats` times in all, and returns the checksum. If the arrays
+// cannot be created, returns the error of `array_and_clone`.
 fn time_array<T: BitNumber + WrappingSum + AsPrimitive<u64>>(
     alloc: Global,
     values: &[i64],
@@ -143,8 +150,9 @@ where
     Ok(time_clones(alloc, (&arrays.0, &arrays.1), kernel, repeats))
 }
 
-/// Runs a kernel on an array of these numbers, converted to the type by truncation or extension.
-/// Its validity begins at bit `shift` of the words; without words it has none.
+/// Runs a kernel on an array of `values`, converted to the type with the number `number_type` by
+/// truncation or extension. The validity begins at bit `shift` of `validities`. If this slice is
+/// empty, the array has no validity.
 #[unsafe(no_mangle)]
 pub extern "C" fn polars_time_reductions(
     alloc: Global,

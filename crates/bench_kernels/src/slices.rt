@@ -9,7 +9,7 @@ use polars_arrays_numbers::comparison::{Equal, Less};
 use polars_arrays_numbers::native_type::NativeType;
 use std::alloc::{AllocError, Global};
 
-/// A kernel on two slices of numbers, or on one and a scalar.
+/// A kernel on two slices of numbers, or on the left one and a scalar.
 #[derive(Clone, Copy)]
 pub(crate) enum SliceKernel {
     Equal,
@@ -31,7 +31,8 @@ impl<T: NativeType> Timed for Slices<'_, T> {
     }
 }
 
-// Runs a kernel on two slices.
+// Runs the kernel with the number `kernel` on two slices and a scalar `repeats` times, and returns
+// the checksum. Returns 0 if the lengths differ, or if there is no such kernel.
 fn time_pair<T: NativeType>(
     alloc: Global,
     left: &[T],
@@ -56,7 +57,8 @@ fn time_pair<T: NativeType>(
     )
 }
 
-// Runs a kernel on slices of one type.
+// Converts `left`, `right` and `scalar` to the type `T`, runs the kernel with the number `kernel`
+// on them `repeats` times, and returns the checksum.
 fn time_slices<T: NativeType>(
     alloc: Global,
     left: &[i64],
@@ -73,7 +75,8 @@ where
     Ok(time_pair::<T>(alloc, &left, &right, &scalar.as_(), kernel, repeats))
 }
 
-/// Runs a kernel on slices of these numbers, converted to the type by truncation or extension.
+/// Runs a kernel on the slices `left` and `right`, and on `scalar`. All numbers are converted to
+/// the type with the number `number_type`, by truncation or extension.
 #[unsafe(no_mangle)]
 pub extern "C" fn polars_time_slices(
     alloc: Global,
@@ -109,7 +112,7 @@ impl Timed for &[bool] {
     }
 }
 
-/// Runs a kernel on a slice of truth values.
+/// Runs a kernel on the truth values `values`.
 #[unsafe(no_mangle)]
 pub extern "C" fn polars_time_bools(
     alloc: Global,

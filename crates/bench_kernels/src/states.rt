@@ -1,5 +1,5 @@
-//! States of distinct values: appending a column in chunks to a new state, merging two states into
-//! a third, and truth values.
+//! States of distinct values: appending a column in chunks to a new state, and merging two states
+//! into a third.
 
 ghost use Rattle.std.specs.Prelude.{◌+◌, ◌≤◌, All, IsTrue, length};
 ghost use Rattle.polars_arrays_flat.specs.ArrayRows.{number_rows};
@@ -18,10 +18,11 @@ use polars_compute_unique::merge::append_all;
 use polars_compute_unique::primitive::{PrimitiveRangedUniqueState, range_fits};
 use std::alloc::Global;
 
-/// The result of a run if there is no state.
+/// The number that stands for the result of a run in which no state could be created.
 const NO_STATE: u64 = 0x5555_5555_5555_5555;
 
-/// A column in chunks, and a range that has all its numbers.
+/// The arrays of a column in chunks, and a range, from `least` to `greatest`, in which the numbers
+/// of all present rows lie. A run appends the arrays to a new state of this range.
 #[derive(Drop)]
 struct Chunks<'a, T: UniqueNumber> {
     arrays: &'a [PrimitiveArray<T>],
@@ -48,7 +49,7 @@ impl<T: UniqueNumber> Timed for Chunks<'_, T> {
     }
 }
 
-// Returns whether a state accepts each array.
+// Returns whether each array of `arrays` can be appended to `state`.
 fn all_accepted<T: UniqueNumber>(
     state: &PrimitiveRangedUniqueState<T>,
     arrays: &[PrimitiveArray<T>],
@@ -65,8 +66,9 @@ fn all_accepted<T: UniqueNumber>(
     true
 }
 
-// Returns the chunks with their range. The error is `Unsupported`, if the range has no state, or
-// does not have all numbers.
+// Returns operands with `arrays` and the range from `least` to `greatest`. The error is
+// `Unsupported` if no state can have this range, or if a number in a present row lies outside it.
+// Any other error is `Memory`.
 fn chunks_between<'a, T: UniqueNumber>(
     alloc: Global,
     arrays: &'a [PrimitiveArray<T>],
@@ -89,7 +91,7 @@ fn chunks_between<'a, T: UniqueNumber>(
     })
 }
 
-// Returns a clone of `n` rows from a place on.
+// Returns a clone of `array`, sliced to the `n` rows from row `at` on. The error is `Memory`.
 fn part_of<T: UniqueNumber>(
     alloc: Global,
     array: &PrimitiveArray<T>,
@@ -103,7 +105,9 @@ fn part_of<T: UniqueNumber>(
     Ok(part)
 }
 
-// Cuts an array into chunks of `chunk` rows, which share its parts.
+// Cuts `array` into chunks of `chunk` rows, and a last chunk with the rows that are left, which may
+// be none. Returns an array for each chunk. The error is `Unsupported` if `chunk` is 0. Any other
+// error is `Memory`.
 fn cut<T: UniqueNumber>(
     alloc: Global,
     array: &PrimitiveArray<T>,
@@ -122,7 +126,9 @@ fn cut<T: UniqueNumber>(
     Ok(chunks)
 }
 
-// Appends an array to new states, in chunks of `chunk` rows.
+// Cuts `array` into chunks of `chunk` rows, appends all chunks to a new state of the numbers from 0
+// to `greatest`, `repeats` times, and returns the checksum. The error is `Unsupported` if `chunk`
+// is 0, or if the state cannot exist or does not accept a chunk. Any other error is `Memory`.
 fn time_cut(
     alloc: Global,
     array: &PrimitiveArray<i32>,
@@ -135,7 +141,9 @@ fn time_cut(
     Ok(repeat(alloc, (), (&chunks, &chunks), repeats))
 }
 
-// Creates an array, and appends it to new states.
+// Creates an array of `values` as 32-bit numbers, and then does what `time_cut` does. The validity
+// begins at bit `shift` of `validities`. If this slice is empty, the array has no validity. The
+// error is also `Unsupported` if `validities` is too short.
 fn time_chunks(
     alloc: Global,
     values: &[i64],
@@ -150,9 +158,9 @@ fn time_chunks(
     time_cut(alloc, &array, greatest, chunk, repeats)
 }
 
-/// Appends these numbers, truncated to 32 bits, to a state of those from 0 to `greatest`, in chunks
-/// of `chunk` rows. Their validity begins at bit `shift` of the words; without words they have
-/// none.
+/// Appends a column in chunks of `chunk` rows to a new state of the numbers from 0 to `greatest`.
+/// The column has the numbers `values`, truncated to 32 bits. Its validity begins at bit `shift` of
+/// `validities`. If this slice is empty, the column has no validity.
 #[unsafe(no_mangle)]
 pub extern "C" fn polars_time_states(
     alloc: Global,
@@ -166,7 +174,8 @@ pub extern "C" fn polars_time_states(
     time_chunks(alloc, values, validities, greatest, chunk, shift, repeats).unwrap_or(0)
 }
 
-/// Two states, and the range of the state that they are merged into.
+/// Two states, and the range, from `least` to `greatest`, of the new state into which a run merges
+/// them.
 #[derive(Drop)]
 struct Merges<'a, T: UniqueNumber> {
     left: &'a PrimitiveRangedUniqueState<T>,
@@ -176,7 +185,7 @@ struct Merges<'a, T: UniqueNumber> {
     ghost fits: { RangeFits (T.value least) (T.value greatest) },
 }
 
-// Merges a state into another one of its range.
+// Merges `other` into `state`. Does nothing if their ranges differ.
 #[inline(always)]
 fn merge<T: UniqueNumber>(
     state: &mut PrimitiveRangedUniqueState<T>,
@@ -203,7 +212,9 @@ impl<T: UniqueNumber> Timed for Merges<'_, T> {
     }
 }
 
-// Creates a state that has seen an array's numbers, if they are from 0 to `greatest`.
+// Creates a state of the numbers from 0 to `greatest`, and appends `array` if the numbers of all
+// present rows lie in this range. The error is `Unsupported` if no state can have the range. Any
+// other error is `Memory`.
 fn state_of(
     alloc: Global,
     array: &PrimitiveArray<i32>,
@@ -219,7 +230,9 @@ fn state_of(
     Ok(state)
 }
 
-// Creates a state that has seen these numbers, if they are from 0 to `greatest`.
+// Creates a state of the numbers from 0 to `greatest`, and appends `values`, truncated to 32 bits,
+// if they all lie in this range. The error is `Unsupported` if no state can have the range. Any
+// other error is `Memory`.
 fn gathered(
     alloc: Global,
     values: &[i64],
@@ -229,7 +242,8 @@ fn gathered(
     state_of(alloc, &array, greatest)
 }
 
-// Merges two states.
+// Merges `left` and `right` into a new state of the numbers from 0 to `greatest`, `repeats` times,
+// and returns the checksum. The error is `Unsupported` if no state can have this range.
 fn time_states(
     alloc: Global,
     left: &PrimitiveRangedUniqueState<i32>,
@@ -249,7 +263,9 @@ fn time_states(
     Ok(repeat(alloc, (), (&merges, &merges), repeats))
 }
 
-// Merges states of two arrays.
+// Creates a state from `left` and one from `right`, merges both into a new state of the numbers
+// from 0 to `greatest`, `repeats` times, and returns the checksum. The error is `Unsupported` if no
+// state can have this range. Any other error is `Memory`.
 fn time_merged(
     alloc: Global,
     left: &[i64],
@@ -262,8 +278,9 @@ fn time_merged(
     time_states(alloc, &left, &right, greatest, repeats)
 }
 
-/// Merges the states of two columns of these numbers, truncated to 32 bits, into a new one of those
-/// from 0 to `greatest`.
+/// Merges two states into a new one, all three of the numbers from 0 to `greatest`. One state has
+/// seen the numbers `left`, and the other one `right`, truncated to 32 bits. A state is empty if
+/// one of its numbers lies outside the range.
 #[unsafe(no_mangle)]
 pub extern "C" fn polars_time_merges(
     alloc: Global,

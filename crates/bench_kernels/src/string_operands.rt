@@ -16,7 +16,8 @@ use std::alloc::Global;
 /// The number of bytes of strings of one size.
 const SIZE: usize = 16;
 
-/// The parts of an array of strings. Each type uses some of them.
+/// The parts of an array of strings. An array of views has `views`, which refer to `bytes`. One of
+/// texts has `offsets` into `bytes`. One of strings of one size has only `bytes`.
 #[derive(Drop)]
 pub(crate) struct Parts<'a> {
     pub(crate) views: &'a [[u8; 16]],
@@ -24,7 +25,7 @@ pub(crate) struct Parts<'a> {
     pub(crate) bytes: &'a [u8],
 }
 
-/// Two arrays of equally many strings, and a string.
+/// Two arrays of equally many strings, and a string with which kernels compare the left array.
 #[derive(Drop)]
 pub(crate) struct Strings<A: ByteRows + Drop, S: Copy> {
     pub(crate) left: A,
@@ -34,7 +35,8 @@ pub(crate) struct Strings<A: ByteRows + Drop, S: Copy> {
     ghost as_long: { length (A.slots right) ≡ length (A.slots left) },
 }
 
-// Pairs two arrays that can be compared, and a string. The error is `Unsupported`, if they cannot.
+// Returns operands with these two arrays and this scalar. The error is `Unsupported` if the arrays
+// have different lengths.
 fn comparable_strings<A: ByteRows + Drop, S: Copy>(
     left: A,
     right: A,
@@ -50,7 +52,9 @@ fn comparable_strings<A: ByteRows + Drop, S: Copy>(
     })
 }
 
-/// Creates two arrays of one type from parts, and a string.
+/// Creates operands with the arrays that `left` and `right` describe, and with `scalar`. The error
+/// is `Unsupported` if these parts make no array, or if the arrays have different lengths. Any
+/// other error is `Memory`.
 pub(crate) fn strings_of<A: StringArray, S: Copy>(
     alloc: Global,
     left: &Parts,
@@ -61,7 +65,8 @@ pub(crate) fn strings_of<A: StringArray, S: Copy>(
     comparable_strings(left, A::of_parts(alloc, right)?, scalar)
 }
 
-/// Clones both arrays.
+/// Clones both arrays of `strings`, and returns the clones with the same scalar. If cloning fails,
+/// returns the error.
 pub(crate) fn clones_of<A: StringArray, S: Copy>(
     alloc: Global,
     strings: &Strings<A, S>,
@@ -70,7 +75,7 @@ pub(crate) fn clones_of<A: StringArray, S: Copy>(
     comparable_strings(left, strings.right.clone_strings(alloc)?, strings.scalar)
 }
 
-// Creates a shared buffer of views.
+// Copies `views` into a shared buffer of views.
 fn shared_views(alloc: Global, views: &[[u8; 16]]) -> Result<Buffer<View>, ComputeError> {
     let mut rows = Vec::with_capacity(alloc, views.len())?;
     for view in views {
@@ -79,7 +84,8 @@ fn shared_views(alloc: Global, views: &[[u8; 16]]) -> Result<Buffer<View>, Compu
     Buffer::from_vec(rows).share(alloc)
 }
 
-/// Creates an array of texts from its offsets, bytes and validity.
+/// Creates an array of the texts between `offsets` in `bytes`. The error is `Unsupported` if the
+/// offsets, the bytes and the validity make no array. Any other error is `Memory`.
 pub(crate) fn texts(
     alloc: Global,
     offsets: &[i32],
@@ -93,7 +99,8 @@ pub(crate) fn texts(
 
 /// A type of arrays of strings.
 pub(crate) trait StringArray: ByteRows + Drop + Sized {
-    /// Creates an array of copies of the strings.
+    /// Creates an array from copies of the parts that this type uses, without a validity. The error
+    /// is `Unsupported` if they make no array. Any other error is `Memory`.
     fn of_parts(alloc: Global, parts: &Parts) -> Result<Self, ComputeError>;
 
     /// Clones the array.

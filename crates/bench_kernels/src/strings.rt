@@ -15,7 +15,7 @@ use polars_compare_order::kernel::TotalOrdKernel;
 use std::alloc::Global;
 use std::str::from_utf8;
 
-/// A kernel on two arrays of strings, or on one array and a string.
+/// A kernel on two arrays of strings, on the left one and a string, or on the left one alone.
 #[derive(Clone, Copy)]
 pub(crate) enum StringKernel {
     TotEq,
@@ -26,14 +26,14 @@ pub(crate) enum StringKernel {
     Max,
 }
 
-/// The layout of strings in an array.
+/// The layout of strings in an array: views, texts between offsets, or byte strings of one size.
 pub(crate) enum StringType {
     Views,
     Texts,
     Sized,
 }
 
-// Returns the number of bytes of the string, if there is one.
+// Returns the number of bytes of the string `found`, or `NO_BIT` if there is none.
 #[inline(always)]
 fn length_of(found: Option<&[u8]>) -> u64 {
     match found {
@@ -42,7 +42,7 @@ fn length_of(found: Option<&[u8]>) -> u64 {
     }
 }
 
-// Returns the number of bytes of the text, if there is one.
+// Returns the number of bytes of the text `found`, or `NO_BIT` if there is none.
 #[inline(always)]
 fn text_length_of(found: Option<&str>) -> u64 {
     match found {
@@ -113,7 +113,8 @@ impl Timed for Strings<FixedSizeBinaryArray, &[u8]> {
     }
 }
 
-// Runs a kernel on two pairs of arrays in turn.
+// Runs the kernel with the number `kernel` `repeats` times, on the two pairs of arrays in
+// `operands` in turn, and returns the checksum, or 0 if there is no such kernel.
 fn time_pair<A: StringArray, S: Copy>(
     alloc: Global,
     operands: (&Strings<A, S>, &Strings<A, S>),
@@ -131,7 +132,8 @@ where
     )
 }
 
-// Runs a kernel on arrays of one type and on clones of them in turn.
+// Creates arrays of type `A` from `left` and `right`, runs the kernel with the number `kernel` on
+// them and on clones of them in turn, `repeats` times in all, and returns the checksum.
 fn time_arrays<A: StringArray, S: Copy>(
     alloc: Global,
     left: &Parts,
@@ -148,9 +150,10 @@ where
     Ok(time_pair(alloc, (&first, &second), kernel, repeats))
 }
 
-/// Runs a kernel on arrays of strings of a type. Views have their long strings in the bytes, texts
-/// lie between the offsets there, and strings of one size follow one another in them. No string is
-/// null. A broadcast compares with the string in the middle of the right ones.
+/// Runs a kernel on two arrays of strings, without nulls. `string_type` decides which slices make
+/// an array: views and the bytes to which they refer, offsets and the bytes of the texts between
+/// them, or the bytes of strings of 16 bytes each. A broadcast compares the left array with
+/// `scalar`.
 #[unsafe(no_mangle)]
 pub extern "C" fn polars_time_strings(
     alloc: Global,

@@ -7,10 +7,10 @@ use polars_arrays_flat::boolean::BooleanArray;
 use recorded_text::fault::Fault;
 use std::alloc::{AllocError, Global};
 
-/// The number of bits stored after the rows of an array.
+/// The number of bits that are stored after the bits of the rows.
 const BEHIND: usize = 66;
 
-/// The capacity for the bits of an array: those before the rows, the rows, and those after them.
+/// The capacity for the bits of a bitmap: those before the rows, the rows, and those after them.
 const ROOM: usize = 264;
 
 /// The distribution of random rows.
@@ -18,14 +18,15 @@ const ROOM: usize = 264;
 pub struct Sort {
     /// `true` if arrays have a validity.
     pub has_validity: bool,
-    /// Chances in 32 that a row is null.
+    /// Chances in 32 that a row is null. In the validity, a bit that belongs to no row is 1 with
+    /// the same chances.
     pub nulls: u64,
-    /// Chances in 32 that a present row is true. Bits that are no rows, and the values of nulls,
-    /// are true with the other `32 - trues` chances.
+    /// Chances in 32 that a present row is true. In the values, the bits of nulls and those that
+    /// belong to no row are 1 with the other `32 - trues` chances.
     pub trues: u64,
 }
 
-/// The bit offsets at which an array begins.
+/// The bit offsets at which the rows of an array begin in its bitmaps.
 #[derive(Clone, Copy)]
 pub struct Place {
     /// The index of the first bit of the values.
@@ -35,8 +36,8 @@ pub struct Place {
 }
 
 impl Place {
-    // Returns how many rows before the first one are cut off by slicing the array. The bitmaps are
-    // sliced first, so that they begin with these rows.
+    // Returns the number of extra rows that the array has before and after the given rows until it
+    // is sliced: 0 if `values` is even, and else the lesser of the two bit offsets.
     fn rows_ahead(self) -> usize {
         if self.values % 2 == 0 {
             0
@@ -46,7 +47,8 @@ impl Place {
     }
 }
 
-/// A list of rows, and an array that should have these rows.
+/// A list of rows, and an array that should have these rows. The expected results are computed from
+/// `rows`, and the kernels are called on `array`.
 #[derive(Drop)]
 pub struct Column {
     rows: Vec<Option<bool>>,
@@ -54,7 +56,8 @@ pub struct Column {
 }
 
 impl Column {
-    /// Draws `len` random rows, and creates an array of them.
+    /// Draws `len` rows distributed as `sort` says, and creates an array of them whose bitmaps
+    /// begin at the bit offsets of `place`.
     pub fn draw(
         alloc: Global,
         sort: Sort,
@@ -66,7 +69,8 @@ impl Column {
         Column::of_rows(alloc, sort, rows, place, draw)
     }
 
-    /// Creates an array of the given rows.
+    /// Creates an array of `rows` whose bitmaps begin at the bit offsets of `place`. `sort` says if
+    /// it has a validity, and distributes the bits that belong to no row.
     pub fn of_rows(
         alloc: Global,
         sort: Sort,
@@ -97,7 +101,7 @@ impl Column {
     }
 }
 
-// Draws `len` random rows.
+// Draws `len` rows distributed as `sort` says.
 fn draw_rows(
     alloc: Global,
     sort: Sort,
@@ -113,7 +117,8 @@ fn draw_rows(
     Ok(rows)
 }
 
-// Creates an array of rows. Fails with `Case` if a bitmap or the array is too short to be sliced.
+// Creates an array of `rows` whose bitmaps begin at the bit offsets of `place`. Fails with `Case`
+// if a bitmap or the array is too short to be sliced.
 fn store_rows(
     alloc: Global,
     sort: Sort,
@@ -138,7 +143,8 @@ fn store_wide(
     Ok(BooleanArray::try_new(values, validity)?)
 }
 
-// Creates the values of an array. The values of nulls are random.
+// Creates the values of an array, with `place.rows_ahead()` more bits before and after the rows.
+// The values of nulls are random. Fails with `Case` if there are too few bits.
 fn store_values(
     alloc: Global,
     sort: Sort,
@@ -151,7 +157,8 @@ fn store_values(
     cut_bits(alloc, &truths, place.values, place.rows_ahead())
 }
 
-// Appends random bits, the values of the rows, and random bits again.
+// Appends `place.values` random bits, the values of the rows, and `BEHIND` random bits. The value
+// of a null is random.
 fn push_values(
     truths: &mut Vec<bool>,
     sort: Sort,
@@ -167,7 +174,7 @@ fn push_values(
     push_others(truths, BEHIND, others, draw)
 }
 
-// Creates the validity of an array, or returns `None` if `sort` has none.
+// Creates the validity of an array, or returns `None` if `sort.has_validity` is false.
 fn store_validity(
     alloc: Global,
     sort: Sort,
@@ -225,8 +232,9 @@ fn push_others(
     Ok(())
 }
 
-// Packs truth values into a bitmap, and slices it down to the rows, which begin at bit `at`, with
-// `ahead` more bits before and after them. Fails with `Case` if there are too few bits.
+// Packs `truths` into a bitmap, and slices it to the bits of the rows and `ahead` more bits on both
+// sides. In `truths` the rows begin at index `at`, and `BEHIND` bits follow them. Fails with `Case`
+// if there are too few bits.
 fn cut_bits(alloc: Global, truths: &[bool], at: usize, ahead: usize) -> Result<Bitmap, Fault> {
     let mut bits = Bitmap::from_bools(alloc, truths)?;
     let from = at.saturating_sub(ahead);
@@ -239,7 +247,7 @@ fn cut_bits(alloc: Global, truths: &[bool], at: usize, ahead: usize) -> Result<B
     Ok(bits)
 }
 
-// Slices an array down to the `n` rows from row `at` on. Fails with `Case` if they do not exist.
+// Slices `array` to the `n` rows from row `at` on. Fails with `Case` if these do not exist.
 fn cut_rows(array: BooleanArray, at: usize, n: usize) -> Result<BooleanArray, Fault> {
     let mut array = array;
     if at > array.len() || n > array.len() - at {

@@ -32,7 +32,7 @@ pub const COUNTS: [(&str, Count); 6] = [
 ];
 
 impl Count {
-    // Returns the expected count of a row, or `None` if the row is null.
+    // Returns the expected count for `row`, 0 or 1, or `None` if the row is null.
     fn of(self, row: Option<bool>) -> Option<u32> {
         let truth = row?;
         let counted = match self {
@@ -42,7 +42,7 @@ impl Count {
         Some(u32::from(counted))
     }
 
-    // Calls the kernel.
+    // Calls the kernel on `array`.
     fn call(self, alloc: Global, array: &BooleanArray) -> Result<PrimitiveArray<u32>, Fault> {
         let counted = match self {
             Count::Ones => array.count_ones(alloc),
@@ -56,7 +56,8 @@ impl Count {
     }
 }
 
-/// Calls each kernel on an array, and compares the results with the counts of the rows.
+/// Calls each kernel on the array of `column`, and compares the results with the expected counts
+/// for its rows.
 pub fn ask(alloc: Global, tallies: &mut [Tally<Count>], column: &Column) -> Result<(), Fault> {
     for tally in tallies.iter_mut() {
         let counted = tally.call.call(alloc, column.array())?;
@@ -65,7 +66,8 @@ pub fn ask(alloc: Global, tallies: &mut [Tally<Count>], column: &Column) -> Resu
     Ok(())
 }
 
-// Compares the counts of a kernel with the expected counts of the rows.
+// Compares `counted`, the result of the kernel `count`, with the expected counts for the rows of
+// `column`, and notes the comparisons in `counts`.
 fn compare_rows(counts: &mut Counts, count: Count, column: &Column, counted: &PrimitiveArray<u32>) {
     counts.begin_call(counted.len() == column.rows().len());
     for (i, row) in column.rows().iter().enumerate() {

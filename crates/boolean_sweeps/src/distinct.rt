@@ -10,7 +10,8 @@ use polars_compute_unique::kernel::{GenericUniqueKernel, RangedUniqueKernel};
 use recorded_text::fault::Fault;
 use std::alloc::{AllocError, Global};
 
-/// A kernel that returns or counts distinct rows.
+/// A kernel that returns or counts the distinct rows of an array or state, or says if a state has
+/// seen false, true and null.
 #[derive(Clone, Copy)]
 pub enum Distinct {
     Unique,
@@ -36,7 +37,8 @@ pub const DISTINCT: [(&str, Distinct); 7] = [
     ),
 ];
 
-/// Calls each kernel on an array, and compares the result with the distinct rows of the list.
+/// Calls each kernel on the array of `column`, or on a state that has seen it, and compares the
+/// result with the distinct rows of the list.
 pub fn ask(alloc: Global, tallies: &mut [Tally<Distinct>], column: &Column) -> Result<(), Fault> {
     let expected = distinct_rows(alloc, column.rows())?;
     for tally in tallies.iter_mut() {
@@ -47,7 +49,7 @@ pub fn ask(alloc: Global, tallies: &mut [Tally<Distinct>], column: &Column) -> R
     Ok(())
 }
 
-// Returns the distinct rows in the order false, true, null.
+// Returns the distinct ones of `rows`, in the order false, true, null.
 fn distinct_rows(alloc: Global, rows: &[Option<bool>]) -> Result<Vec<Option<bool>>, AllocError> {
     let mut distinct = Vec::new(alloc);
     for row in [Some(false), Some(true), None] {
@@ -58,7 +60,8 @@ fn distinct_rows(alloc: Global, rows: &[Option<bool>]) -> Result<Vec<Option<bool
     Ok(distinct)
 }
 
-// Calls a kernel, and returns whether the result is right for the distinct rows `expected`.
+// Calls the kernel `call` on `array` or on its state, and returns whether the result is right for
+// the distinct rows `expected`.
 fn agrees(
     alloc: Global,
     call: Distinct,
@@ -80,8 +83,8 @@ fn agrees(
     Ok(agrees)
 }
 
-// Returns a state that has seen the rows of an array. They are appended to another state, which is
-// then merged into this one.
+// Returns a state that has seen the rows of `array`. The rows are appended to a second state, which
+// is then merged into the returned one.
 fn state_of(array: &BooleanArray) -> BooleanUniqueKernelState {
     let mut state = BooleanUniqueKernelState::new();
     let mut other = BooleanUniqueKernelState::new();
@@ -101,7 +104,7 @@ fn present_rows(distinct: &[Option<bool>]) -> usize {
         .saturating_sub(usize::from(distinct.contains(&None)))
 }
 
-// Returns whether an array has exactly these rows.
+// Returns whether `array` has exactly the rows `rows`, in this order.
 fn has_rows(array: &BooleanArray, rows: &[Option<bool>]) -> bool {
     let mut agrees = array.len() == rows.len();
     for (i, row) in rows.iter().enumerate() {

@@ -5,7 +5,7 @@ const FACTOR: u64 = 6_364_136_223_846_793_005;
 
 const TERM: u64 = 1_442_695_040_888_963_407;
 
-/// The number of chances. A truth value drawn with all of them is always true.
+/// The greatest number of chances. A truth value drawn with `CHANCES` chances is always true.
 pub const CHANCES: u64 = 32;
 
 /// A generator of pseudorandom truth values.
@@ -15,7 +15,7 @@ pub struct Draw {
 }
 
 impl Draw {
-    /// Creates a generator whose seed is made of the numbers in `place`.
+    /// Creates a generator whose seed is computed from the numbers in `place`, in their order.
     pub fn new(place: &[usize]) -> Draw {
         let mut draw = Draw { state: 0 };
         for number in place {

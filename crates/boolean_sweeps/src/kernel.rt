@@ -14,8 +14,8 @@ pub enum Kernel {
 }
 
 impl Kernel {
-    /// Returns the expected bit for two rows, or `None` if a row is null and the kernel promises
-    /// nothing about nulls.
+    /// Returns the expected bit of the result for the rows `left` and `right`, or `None` if one of
+    /// them is null and the kernel promises nothing about nulls.
     pub fn bit(self, left: Option<bool>, right: Option<bool>) -> Option<bool> {
         match self {
             Kernel::EqualMissing => Some(left == right),

@@ -28,13 +28,15 @@ mod singles;
 mod tally;
 mod turned;
 
-// Calls all kernels, and prints the counts.
+// Runs the sweeps of pairs of arrays, of single arrays, and of lists with a wrong row. Each prints
+// its counts.
 fn sweep_all(rt: &(impl Print + AllocGlobal)) -> Result<(), Fault> {
     pairs::sweep(rt)?;
     singles::sweep(rt)?;
     turned::sweep(rt)
 }
 
+// Runs all sweeps. The exit code is 1 if one of them fails, and else 0, also if results differ.
 fn main(rt: HostRuntime) -> ExitCode {
     match sweep_all(&rt) {
         Ok(()) => ExitCode::from(0),

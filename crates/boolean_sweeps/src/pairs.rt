@@ -35,7 +35,8 @@ const ROUNDS: [(Sort, Sort); 5] = [
     (PLAIN, FEW_FALSE),
 ];
 
-/// Calls all kernels at all pairs of bit offsets, and prints the counts.
+/// Calls all kernels on two arrays, for each distribution, length and pair of bit offsets of their
+/// values, and prints the counts.
 pub fn sweep(rt: &(impl Print + AllocGlobal)) -> Result<(), Fault> {
     let alloc = rt.alloc();
     let mut tallies = begin(alloc, &KERNELS)?;
@@ -45,7 +46,8 @@ pub fn sweep(rt: &(impl Print + AllocGlobal)) -> Result<(), Fault> {
     print(rt, &tallies)
 }
 
-// Calls all kernels on arrays of each length.
+// Calls all kernels on arrays of each length at each pair of bit offsets. The rows are distributed
+// as `left` and `right` say. `round` is part of the random seed.
 fn sweep_round(
     alloc: Global,
     tallies: &mut [Tally<Kernel>],
@@ -61,8 +63,8 @@ fn sweep_round(
     Ok(())
 }
 
-// Creates an array for each bit offset. `round_side` is the round, and 0 for the left or 1 for the
-// right side; it becomes part of the random seed.
+// Creates an array of `len` rows for each bit offset of the values. `round_side` is the round, and
+// 0 for the left or 1 for the right side; it becomes part of the random seed.
 fn columns(
     alloc: Global,
     sort: Sort,
@@ -76,7 +78,8 @@ fn columns(
     Ok(columns)
 }
 
-// Creates the array whose values begin at bit `values`, and appends it to `columns`.
+// Creates an array of `len` rows whose values begin at bit `values`, and appends it to `columns`.
+// `round_side` is part of the random seed.
 fn push_column(
     alloc: Global,
     columns: &mut Vec<Column>,
@@ -108,7 +111,8 @@ fn ask_pairs(
     Ok(())
 }
 
-// Calls all kernels on two arrays, and compares the results with the lists of rows.
+// Calls all kernels on the arrays of `left` and `right`, and compares the results with those
+// expected for their lists of rows.
 fn ask_all(
     alloc: Global,
     tallies: &mut [Tally<Kernel>],
@@ -145,7 +149,8 @@ fn call(
     Ok(bits?)
 }
 
-// Compares the bits that a kernel returned with the expected ones.
+// Compares `bits`, the result of `kernel`, with the bits expected for the rows of `left` and
+// `right`, and notes the comparisons in `counts`.
 fn compare_bits(counts: &mut Counts, kernel: Kernel, left: &Column, right: &Column, bits: &Bitmap) {
     let rows = left.rows().iter().zip(right.rows());
     counts.begin_call(bits.len() == left.rows().len());
@@ -170,7 +175,8 @@ pub fn sweep_turned(rt: &(impl Print + AllocGlobal)) -> Result<(), Fault> {
     print(rt, &tallies)
 }
 
-// Creates an array of 129 true rows.
+// Creates an array of 129 true rows. `side` is the random seed. It has no effect, because each bit
+// is drawn with 0 or 32 chances in 32.
 fn all_true(alloc: Global, side: usize) -> Result<Column, Fault> {
     let place = Place {
         values: 3,

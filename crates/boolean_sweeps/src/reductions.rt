@@ -38,7 +38,7 @@ pub const REDUCTIONS: [(&str, Reduction); 9] = [
 type Pair = Option<(bool, bool)>;
 
 impl Reduction {
-    // Calls the kernel on an array.
+    // Calls the kernel on `array`, and returns its result as a pair.
     fn call(self, array: &BooleanArray) -> Pair {
         match self {
             Reduction::And => twice(array.reduce_and()),
@@ -53,7 +53,8 @@ impl Reduction {
         }
     }
 
-    // Joins two expected results.
+    // Returns the expected result for all rows of two lists. `left` and `right` are the expected
+    // results for the two lists.
     fn join(self, left: (bool, bool), right: (bool, bool)) -> (bool, bool) {
         match self {
             Reduction::And | Reduction::Min | Reduction::MinPropagate => {
@@ -89,7 +90,8 @@ fn twice(truth: Option<bool>) -> Pair {
     Some((truth, truth))
 }
 
-/// Calls each kernel on an array, and compares the result with the list of rows.
+/// Calls each kernel on the array of `column`, and compares the result with the one expected for
+/// its list of rows.
 pub fn ask(tallies: &mut [Tally<Reduction>], column: &Column) {
     for tally in tallies.iter_mut() {
         let expected = tally.call.of(column.rows());

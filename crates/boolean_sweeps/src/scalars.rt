@@ -22,8 +22,8 @@ pub const KERNELS: [(&str, Kernel); 8] = [
     ("tot_ge_kernel_broadcast", Kernel::GreaterOrEqual),
 ];
 
-/// Calls each kernel on an array and each of the two truth values, and compares the results with
-/// the list of rows.
+/// Calls each kernel on the array of `column` with each of the two truth values, and compares the
+/// results with those expected for its list of rows.
 pub fn ask(alloc: Global, tallies: &mut [Tally<Kernel>], column: &Column) -> Result<(), Fault> {
     for scalar in [false, true] {
         for tally in tallies.iter_mut() {
@@ -34,7 +34,7 @@ pub fn ask(alloc: Global, tallies: &mut [Tally<Kernel>], column: &Column) -> Res
     Ok(())
 }
 
-// Calls a kernel on an array and a truth value.
+// Calls `kernel` on `array` and the truth value `scalar`.
 fn call(
     alloc: Global,
     kernel: Kernel,
@@ -54,7 +54,8 @@ fn call(
     Ok(bits?)
 }
 
-// Compares the bits that a kernel returned with the expected ones.
+// Compares `bits`, the result of `kernel`, with the bits expected for the rows of `column` and
+// `scalar`, and notes the comparisons in `counts`.
 fn compare_bits(counts: &mut Counts, kernel: Kernel, column: &Column, scalar: bool, bits: &Bitmap) {
     counts.begin_call(bits.len() == column.rows().len());
     for (i, row) in column.rows().iter().enumerate() {

@@ -24,7 +24,8 @@ const ROUNDS: [Sort; 6] = [
     ALL_NULL,
 ];
 
-/// The counts of all kernels of a single array.
+/// The tallies of all kernels of a single array: those of `scalars` in `broadcasts`, and those of
+/// the modules `counts`, `reductions` and `distinct` in the fields of these names.
 #[derive(Drop)]
 pub struct Singles {
     broadcasts: Vec<Tally<Kernel>>,
@@ -34,7 +35,7 @@ pub struct Singles {
 }
 
 impl Singles {
-    /// Creates counts that are all 0.
+    /// Creates a tally for each kernel. All counts are 0.
     pub fn new(alloc: Global) -> Result<Singles, Fault> {
         let broadcasts = begin(alloc, &scalars::KERNELS)?;
         let counts = begin(alloc, &counts::COUNTS)?;
@@ -48,7 +49,8 @@ impl Singles {
         })
     }
 
-    /// Calls all kernels on an array.
+    /// Calls all kernels on the array of `column`, compares the results with those expected for its
+    /// rows, and counts them.
     pub fn ask(&mut self, alloc: Global, column: &Column) -> Result<(), Fault> {
         scalars::ask(alloc, &mut self.broadcasts, column)?;
         counts::ask(alloc, &mut self.counts, column)?;
@@ -56,7 +58,7 @@ impl Singles {
         distinct::ask(alloc, &mut self.distinct, column)
     }
 
-    /// Prints the counts of each kernel.
+    /// Prints a line with the counts for each kernel.
     pub fn print(&self, rt: &impl Print) -> Result<(), Fault> {
         print(rt, &self.broadcasts)?;
         print(rt, &self.counts)?;
@@ -65,7 +67,8 @@ impl Singles {
     }
 }
 
-/// Calls all kernels at all pairs of bit offsets, and prints the counts.
+/// Calls all kernels of a single array, for all distributions, lengths and pairs of bit offsets,
+/// and prints the counts.
 pub fn sweep(rt: &(impl Print + AllocGlobal)) -> Result<(), Fault> {
     let mut singles = Singles::new(rt.alloc())?;
     for (round, sort) in ROUNDS.iter().enumerate() {
@@ -74,7 +77,8 @@ pub fn sweep(rt: &(impl Print + AllocGlobal)) -> Result<(), Fault> {
     singles.print(rt)
 }
 
-// Calls all kernels on arrays of each length.
+// Calls all kernels on arrays of each length at each pair of bit offsets, with rows distributed as
+// `sort` says. `round` is part of the random seed.
 fn sweep_round(
     alloc: Global,
     singles: &mut Singles,
@@ -89,8 +93,8 @@ fn sweep_round(
     Ok(())
 }
 
-// Calls all kernels on arrays whose values begin at bit `values`, and whose validity begins at each
-// bit offset.
+// Calls all kernels on arrays of `len` rows whose values begin at bit `values`, once for each bit
+// offset of the validity. `round` is part of the random seed.
 fn sweep_offset(
     alloc: Global,
     singles: &mut Singles,

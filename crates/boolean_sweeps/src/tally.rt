@@ -4,7 +4,8 @@ use polars_arrays_bits::bitmap::Bitmap;
 use recorded_text::fault::Fault;
 use std::alloc::{AllocError, Global};
 
-/// The counts of the results of a kernel.
+/// The counts for a kernel: its calls, its results (`answers`), the results that were compared, and
+/// the differences (`differ`).
 #[derive(Drop)]
 pub struct Counts {
     calls: u64,
@@ -24,32 +25,32 @@ impl Counts {
         }
     }
 
-    /// Counts a call. If `is_whole` is false, the result has a wrong length, and a difference is
-    /// counted.
+    /// Counts a call. `is_whole` says if the result has the expected length. If not, a difference
+    /// is counted too.
     pub fn begin_call(&mut self, is_whole: bool) {
         self.calls = self.calls.saturating_add(1);
         self.note(is_whole);
     }
 
-    // Counts a difference, unless `agrees` is true.
+    // Counts a difference if `agrees` is false.
     fn note(&mut self, agrees: bool) {
         self.differ = self.differ.saturating_add(u64::from(!agrees));
     }
 
-    /// Counts a result that was compared, and a difference, unless `agrees` is true.
+    /// Counts a result that was compared. If `agrees` is false, counts a difference too.
     pub fn compare(&mut self, agrees: bool) {
         self.answers = self.answers.saturating_add(1);
         self.compared = self.compared.saturating_add(1);
         self.note(agrees);
     }
 
-    /// Counts a result about which the kernel promises nothing.
+    /// Counts a result that is not compared, because the kernel promises nothing about it.
     pub fn pass_over(&mut self) {
         self.answers = self.answers.saturating_add(1);
     }
 
-    /// Compares bit `i` of a result with the expected bit, and counts it. If `expected` is `None`,
-    /// the bit is only counted as a result.
+    /// Compares bit `i` of the result `bits` with `expected`, and counts the comparison. If
+    /// `expected` is `None`, only counts a result.
     pub fn compare_bit(&mut self, expected: Option<bool>, bits: &Bitmap, i: usize) {
         match expected {
             Some(_) => self.compare(bits.get(i) == expected),
@@ -58,7 +59,7 @@ impl Counts {
     }
 }
 
-/// A kernel, its name, and the counts of its results.
+/// A kernel (`call`), its printed name, and the counts of its results.
 #[derive(Drop)]
 pub struct Tally<C: Copy> {
     pub name: &'static str,
@@ -66,7 +67,7 @@ pub struct Tally<C: Copy> {
     pub counts: Counts,
 }
 
-/// Creates a tally for each kernel. All counts are 0.
+/// Creates a tally for each name and kernel of `calls`. All counts are 0.
 pub fn begin<C: Copy>(
     alloc: Global,
     calls: &[(&'static str, C)],
@@ -83,7 +84,7 @@ pub fn begin<C: Copy>(
     Ok(tallies)
 }
 
-/// Prints a line for each kernel.
+/// Prints a line with the name and the counts for each tally.
 pub fn print<C: Copy>(rt: &impl Print, tallies: &[Tally<C>]) -> Result<(), Fault> {
     for tally in tallies {
         print_line(rt, tally.name, &tally.counts)?;
@@ -91,7 +92,7 @@ pub fn print<C: Copy>(rt: &impl Print, tallies: &[Tally<C>]) -> Result<(), Fault
     Ok(())
 }
 
-// Prints the line of a kernel.
+// Prints the line of the kernel `name`.
 fn print_line(rt: &impl Print, name: &str, counts: &Counts) -> Result<(), Fault> {
     let Counts {
         calls,

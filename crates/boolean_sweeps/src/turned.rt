@@ -9,7 +9,7 @@ use crate::singles::Singles;
 use recorded_text::fault::Fault;
 use std::alloc::Global;
 
-/// Calls all kernels on arrays whose lists have a wrong row, and prints the counts.
+/// Calls all kernels on arrays of which the list of rows has one wrong row, and prints the counts.
 pub fn sweep(rt: &(impl Print + AllocGlobal)) -> Result<(), Fault> {
     println!(rt; "Row 100 told wrong, of the right array and then of the left:")?;
     pairs::sweep_turned(rt)?;
@@ -21,8 +21,8 @@ pub fn sweep(rt: &(impl Print + AllocGlobal)) -> Result<(), Fault> {
     singles.print(rt)
 }
 
-// Creates an array of the rows, negates the first row in the list from which the expected results
-// are computed, and calls all kernels.
+// Creates an array of `rows`, negates the first row of the list from which the expected results are
+// computed, and calls all kernels of a single array.
 fn ask(alloc: Global, singles: &mut Singles, rows: &[Option<bool>]) -> Result<(), Fault> {
     let place = Place {
         values: 62,

@@ -9,10 +9,11 @@ use dunkelva_messages::near::{are_near, differ_by_case};
 use polars_arrays_flat::byte_rows::ByteRows;
 use std::alloc::Global;
 
-/// The bytes that commonly separate fields.
+/// The bytes that commonly separate fields. A file's only column is searched for them.
 const DELIMITERS: &[u8] = b",;\t|\x01";
 
-/// Returns a list of the first names, followed by the number of the remaining ones.
+/// Returns a list of the first `MOST_NAMES` of `names`, followed by the number of the remaining
+/// ones, if there are any.
 fn list_of<N: ByteRows>(alloc: Global, names: &N) -> Result<String> {
     let count = names.count();
     let mut text = String::new(alloc);
@@ -25,8 +26,8 @@ fn list_of<N: ByteRows>(alloc: Global, names: &N) -> Result<String> {
     Ok(text)
 }
 
-/// Returns the index of the first name that differs from `wanted` only by case. If there is none,
-/// returns the index of the first name that is similar to it, or `None`.
+/// Returns the index of the first of `names` that differs from `wanted` only by case. If there is
+/// none, returns the index of the first name that is similar to `wanted`, or `None` if no name is.
 fn nearest<N: ByteRows>(names: &N, wanted: &[u8]) -> Option<usize> {
     let mut near = None;
     for c in 0..names.count() {
@@ -41,9 +42,10 @@ fn nearest<N: ByteRows>(names: &N, wanted: &[u8]) -> Option<usize> {
     near
 }
 
-/// Returns a byte that may be the real delimiter of a file with a single column: the first byte of
-/// the column's name that commonly separates fields and is not `delimiter`. Otherwise returns
-/// `None`.
+/// Returns a byte that may be the real delimiter of a file that was read with `delimiter` and has
+/// the columns `names`. If there is a single column, this is the first byte of its name that
+/// commonly separates fields and is not `delimiter`. Otherwise, or if the name has no such byte,
+/// returns `None`.
 fn other_delimiter<N: ByteRows>(names: &N, delimiter: u8) -> Option<char> {
     if names.count() != 1 {
         return None;
@@ -56,8 +58,8 @@ fn other_delimiter<N: ByteRows>(names: &N, delimiter: u8) -> Option<char> {
     None
 }
 
-/// Returns a hint that asks whether `other` is the delimiter of a file that was read with
-/// `delimiter`. Returns `None` if an allocation fails.
+/// Returns a question for a hint: whether `other` is the real delimiter of a file that was read
+/// with `delimiter`. Returns `None` if an allocation fails.
 fn question_about_delimiter(alloc: Global, other: char, delimiter: u8) -> Option<String> {
     if other == '\u{1}' {
         return String::from_str(alloc, "is the byte 1 the --delimiter? It is \\x01.").ok();
@@ -69,7 +71,8 @@ fn question_about_delimiter(alloc: Global, other: char, delimiter: u8) -> Option
 }
 
 /// Returns a question about the column name `wanted`, which is not among `names`: whether another
-/// byte is the delimiter, or whether a similar name was meant. Returns `None` if neither is likely.
+/// byte than `delimiter` is the real delimiter, or whether a similar name was meant. Returns `None`
+/// if neither is likely, if the similar name is not UTF-8, or if an allocation fails.
 fn question_about<N: ByteRows>(
     alloc: Global,
     names: &N,
@@ -88,8 +91,8 @@ fn question_about<N: ByteRows>(
 }
 
 /// Returns a hint about the column name `wanted`, which is not among `names`: a question, if there
-/// is one, and a list of the columns. If `file` is given, the hint says that the columns are those
-/// of `file`.
+/// is one (`question_about`), and a list of `names`. If `file` is given, the hint says that these
+/// are the columns of `file`. Returns `None` if an allocation fails.
 fn hint_about<N: ByteRows>(
     alloc: Global,
     names: &N,
@@ -108,10 +111,10 @@ fn hint_about<N: ByteRows>(
     }
 }
 
-/// Returns a hint about the name `wanted`, which is not the name of a column of a file: a question,
-/// if a name is similar or another byte may be the delimiter, and a list of the columns. If
-/// `is_named` is true, the hint names the file. Returns `None` if the file is not a regular file,
-/// since only these can be read again, if it can't be read, or if it has no columns.
+/// Reads the column names of `file` again, and returns a hint about the name `wanted`, which is not
+/// among them. The hint lists the columns. It also asks a question, if a name is similar or another
+/// byte may be the delimiter. If `is_named` is true, the hint names the file. Returns `None` if the
+/// file has no columns, is not a regular file or can't be read again, or if an allocation fails.
 pub(crate) fn columns_hint(
     rt: &HostRuntime,
     file: &str,
@@ -128,8 +131,9 @@ pub(crate) fn columns_hint(
     hint_about(rt.alloc(), &names, csv.delimiter, wanted, file)
 }
 
-/// Reads the name of a column from a regular file. The first column is 0. Returns `None` if the
-/// file can't be read again, has no such column, or the name is not UTF-8.
+/// Reads the regular file `file` again, and returns the name of the column at the index `column`,
+/// from 0. Returns `None` if the file can't be read again or has no such column, if the name is not
+/// UTF-8, or if an allocation fails.
 pub(crate) fn column_name(
     rt: &HostRuntime,
     file: &str,

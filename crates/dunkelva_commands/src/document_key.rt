@@ -1,4 +1,4 @@
-//! The key of a document, read from its file again for an error message.
+//! The key of a document, for an error message. For this the file is read again.
 
 use dunkelva_messages::lines::line_bytes;
 use dunkelva_messages::names::push_name;
@@ -6,11 +6,12 @@ use json::{Scratch, Value};
 use json_paths::path::Path;
 use std::alloc::Global;
 
-/// The greatest length of a number in a message, in bytes.
+/// The greatest length, in bytes, of a number that is shown in a message.
 const MOST_BYTES: usize = 60;
 
-/// Appends a part of a key to `text`, with a comma before it unless it is the first one. A missing
-/// part is written as null. Returns `None` if the part is a list, an object or a long number.
+/// Appends `part`, a part of a key, to `text`, with a comma before it unless `is_first` is true. A
+/// missing part is written as null. Returns `None` if the part is a list, an object or a number of
+/// more than 60 bytes, or if an allocation fails.
 fn push_part(
     text: &mut String,
     alloc: Global,
@@ -32,8 +33,9 @@ fn push_part(
     text.push_str(word).ok()
 }
 
-/// Returns a list of the parts of a document at the key's paths, as text. Returns `None` if a part
-/// is a list, an object or a long number.
+/// Returns a list, as text, of the parts that `document` has at `paths`, the paths of the key.
+/// Returns `None` if a part is a list, an object or a number of more than 60 bytes, or if an
+/// allocation fails.
 fn parts_of(alloc: Global, document: &Value<'_>, paths: &[Path]) -> Option<String> {
     let mut text = String::new(alloc);
     for (i, path) in paths.iter().enumerate() {
@@ -42,8 +44,9 @@ fn parts_of(alloc: Global, document: &Value<'_>, paths: &[Path]) -> Option<Strin
     Some(text)
 }
 
-/// Reads the key of the document in a line of a regular file. The first line is 1. Returns `None`
-/// if the line can't be read again, is not a JSON document, or if `parts_of` returns `None`.
+/// Reads the regular file `file` again, and returns the key of the document in the line `line`, as
+/// text. The first line is 1. `paths` are the paths of the key. Returns `None` if the line can't be
+/// read again or is not a JSON document, or if `parts_of` returns `None`.
 pub(crate) fn document_key(
     rt: &HostRuntime,
     file: &str,

@@ -1,5 +1,5 @@
-//! The key of a row, and the command that sorts a file by its key, for error messages. The file is
-//! read again.
+//! The key of a row, and a command that sorts a file by key, both for error messages. For these the
+//! file is read again.
 
 use csv::ByteRecord;
 use diff_csv::source::Source;
@@ -9,7 +9,7 @@ use dunkelva_messages::names::push_name;
 use polars_arrays_flat::byte_rows::ByteRows;
 use std::alloc::Global;
 
-/// Returns the index of the column named `wanted`, or `None` if there is none.
+/// Returns the index of the first of `names` that equals `wanted`, or `None` if there is none.
 fn place_of<N: ByteRows>(names: &N, wanted: &[u8]) -> Option<usize> {
     for c in 0..names.count() {
         if names.bytes(c) == wanted {
@@ -19,7 +19,8 @@ fn place_of<N: ByteRows>(names: &N, wanted: &[u8]) -> Option<usize> {
     None
 }
 
-/// Returns the indices of the key columns, or `None` if one of them is missing.
+/// Returns the index in `names` of each of the key columns `keys`. Returns `None` if one of them is
+/// missing, or if an allocation fails.
 fn places_of<N: ByteRows>(alloc: Global, names: &N, keys: &[&[u8]]) -> Option<Vec<usize>> {
     let mut places = Vec::new(alloc);
     for key in keys {
@@ -28,8 +29,8 @@ fn places_of<N: ByteRows>(alloc: Global, names: &N, keys: &[&[u8]]) -> Option<Ve
     Some(places)
 }
 
-/// Returns a list of the cells of a row in the given columns, as text, or `None` if a cell is
-/// missing.
+/// Returns a list, as text, of the cells that `row` has at the indices `columns`. Returns `None` if
+/// `row` lacks a cell, or if an allocation fails.
 fn cells_of(alloc: Global, row: &ByteRecord, columns: &[usize]) -> Option<String> {
     let mut text = String::new(alloc);
     for (i, column) in columns.iter().enumerate() {
@@ -38,8 +39,9 @@ fn cells_of(alloc: Global, row: &ByteRecord, columns: &[usize]) -> Option<String
     Some(text)
 }
 
-/// Reads the key of the row that begins at a line of a regular file. The first line is 1. Returns
-/// `None` if the file can't be read again, or has no such row.
+/// Reads the regular file `file` again, and returns the key of the row that begins at the line
+/// `line`, as text. The first line is 1. Returns `None` if the file can't be read again, lacks a
+/// key column or has no such row, or if an allocation fails.
 pub(crate) fn row_key(
     rt: &HostRuntime,
     file: &str,
@@ -60,7 +62,8 @@ pub(crate) fn row_key(
     None
 }
 
-/// Returns the delimiter as an argument for a shell, in quotes, or `None` if it can't be printed.
+/// Returns `delimiter` as an argument for a shell, in quotes. Returns `None` if it is neither a tab
+/// nor a printable ASCII character, or if an allocation fails.
 fn in_shell(alloc: Global, delimiter: u8) -> Option<String> {
     match delimiter {
         b'\t' => String::from_str(alloc, "$'\\t'").ok(),
@@ -73,8 +76,9 @@ fn in_shell(alloc: Global, delimiter: u8) -> Option<String> {
     }
 }
 
-/// Returns a shell command that sorts lines by the given columns, or `None` if the delimiter can't
-/// be printed. The first column is 0.
+/// Returns a shell command that sorts lines by the fields at the indices `columns`, from 0.
+/// `delimiter` separates the fields. Returns `None` if it can't be written in a shell command
+/// (`in_shell`), or if an allocation fails.
 fn sort_by(alloc: Global, columns: &[usize], delimiter: u8) -> Option<String> {
     let between = in_shell(alloc, delimiter)?;
     let mut command = format!(in alloc; "LC_ALL=C sort -t{between}").ok()?;
@@ -86,9 +90,11 @@ fn sort_by(alloc: Global, columns: &[usize], delimiter: u8) -> Option<String> {
     Some(command)
 }
 
-/// Returns a shell command that sorts a regular file by its key columns, below the header if there
-/// is one. Returns `None` if the file can't be read again or lacks a key column, or if the
-/// delimiter can't be printed.
+/// Returns a shell command that sorts a file by the key columns in `options`. In the command,
+/// `FILE` stands for the file. If the file has a header, the header stays the first line. Reads the
+/// regular file `file` again to find the key columns. Returns `None` if the file can't be read
+/// again or lacks a key column, if the delimiter can't be written in a shell command (`in_shell`),
+/// or if an allocation fails.
 pub(crate) fn sort_command(rt: &HostRuntime, file: &str, options: &Options<'_>) -> Option<String> {
     let alloc = rt.alloc();
     let source = Source::open(alloc, open_again(rt, file)?, options.csv).ok()?;

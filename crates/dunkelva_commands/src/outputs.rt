@@ -6,16 +6,16 @@ use dunkelva_settings::words::Target;
 use std::fs;
 use std::os::unix::fs::MetadataExt;
 
-/// Returns the device number and the inode number of the regular file at a path. Links are
-/// followed. Returns `None` if nothing is at the path, or no regular file, such as a terminal or a
-/// pipe.
+/// Returns the device number and the inode number of the regular file at `path`. Links are
+/// followed. Returns `None` if there is nothing at `path`, or something else than a regular file,
+/// such as a terminal or a pipe.
 fn stored_at(rt: &HostRuntime, path: &str) -> Option<(u64, u64)> {
     let data = fs::metadata(rt, path).ok()?;
     data.is_file().then_some((data.dev(), data.ino()))
 }
 
-/// Returns the first input that is the same file as the file at `path`, or `None` if there is none.
-/// The input `-` is standard input.
+/// Returns the first of `inputs` that is the same regular file as the one at `path`, or `None` if
+/// there is none. The input `-` is standard input.
 fn input_at<'a>(rt: &HostRuntime, path: &str, inputs: &[&'a str]) -> Option<&'a str> {
     let (device, number) = stored_at(rt, path)?;
     for input in inputs {
@@ -28,7 +28,7 @@ fn input_at<'a>(rt: &HostRuntime, path: &str, inputs: &[&'a str]) -> Option<&'a 
     None
 }
 
-/// Fails if standard output is one of the inputs.
+/// Fails if standard output is a regular file that is also one of `inputs`.
 pub(crate) fn refuse_own_output(rt: &HostRuntime, inputs: &[&str]) -> Result<()> {
     match input_at(rt, "/dev/stdout", inputs) {
         Some(input) => Err(trouble!("standard output is the input {input:?}")),
@@ -36,7 +36,8 @@ pub(crate) fn refuse_own_output(rt: &HostRuntime, inputs: &[&str]) -> Result<()>
     }
 }
 
-/// Fails if the report would be written to one of the inputs.
+/// Fails if the report for `target` would be written to a regular file that is also one of
+/// `inputs`.
 pub(crate) fn refuse_own_target(
     rt: &HostRuntime,
     inputs: &[&str],

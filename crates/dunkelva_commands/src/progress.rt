@@ -19,14 +19,14 @@ const PAUSE: u128 = 100;
 struct Reading {
     /// The number of bytes read so far.
     bytes: u64,
-    /// The time of the next update, in milliseconds since the start.
+    /// The earliest time of the next update, in milliseconds since the start.
     next: u128,
     /// `true` if the line is visible on the terminal.
     is_shown: bool,
 }
 
-/// A progress line on standard error that says how many bytes were read. It is shown only on a
-/// terminal, and only if the run takes more than a second.
+/// A progress line on standard error that says how many bytes of both inputs were read. It is shown
+/// only if standard error is a terminal, and only if the run takes more than a second.
 #[derive(Drop)]
 pub(crate) struct Progress<'a> {
     rt: &'a HostRuntime,
@@ -38,8 +38,8 @@ pub(crate) struct Progress<'a> {
 }
 
 impl<'a> Progress<'a> {
-    /// Starts to measure the time. `total` is the number of bytes of both inputs, or `None` if it
-    /// is unknown.
+    /// Returns a progress line that is not shown yet, and starts to measure the time. `total` is
+    /// the number of bytes of both inputs, or `None` if it is unknown.
     pub(crate) fn new(rt: &'a HostRuntime, total: Option<u64>) -> Progress<'a> {
         let start = if rt.stderr().is_terminal() {
             Instant::now(rt).ok()
@@ -59,7 +59,9 @@ impl<'a> Progress<'a> {
         }
     }
 
-    /// Adds a number of bytes that were read, and updates the line if enough time has passed.
+    /// Adds `bytes`, the number of bytes that were just read, to the number of all bytes read.
+    /// Prints the line if the time of the next update has come. Does nothing if the line is never
+    /// shown.
     fn add(&self, bytes: usize) {
         let Some(start) = self.start else {
             return;
@@ -78,7 +80,7 @@ impl<'a> Progress<'a> {
         self.reading.set(reading);
     }
 
-    /// Prints the number of bytes read so far over the previous line.
+    /// Prints the line, with `bytes` as the number of bytes read so far, over the previous line.
     fn say(&self, bytes: u64) {
         let _ = match self.total {
             Some(total) => eprint!(self.rt; "\r{bytes} of {total} bytes read"),

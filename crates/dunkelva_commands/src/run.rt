@@ -1,4 +1,4 @@
-//! The commands of the program, and its exit status.
+//! The commands of the program, and the exit status of each.
 
 use crate::outputs::refuse_own_target;
 use crate::schema::show_schema;
@@ -30,11 +30,13 @@ use dunkelva_settings::words::{
 use json_changes::changes::Rules;
 use std::env;
 
-/// The exit status if the files can't be compared.
+/// The exit status if the program fails, for example because files can't be compared.
 const TROUBLE: u8 = 2;
 
-/// Compares two CSV files with the given column names and tolerances. Writes the report to the
-/// target, and returns the exit status.
+/// Compares the CSV files `left` and `right` with the columns that `names` gives and with
+/// `tolerances`. The other options are those in `matches`. Writes the report to `target`, and
+/// returns the exit status. Fails if an option is invalid or can't be given with `--sorted`, or if
+/// the comparison fails.
 fn diff_by_names(
     rt: &HostRuntime,
     matches: &ArgMatches<'_>,
@@ -71,8 +73,9 @@ fn diff_by_names(
     compare_named(rt, left, right, is_said, Task::Tables(&options), target)
 }
 
-/// Compares two CSV files with the options in `matches`. Writes the report to the target, and
-/// returns the exit status. Fails if an option is only for documents.
+/// Compares the two CSV files `files` with the options in `matches`. Writes the report to `target`,
+/// and returns the exit status. Fails if an option is only for documents, if an option is invalid,
+/// or if the comparison fails.
 fn diff_tables(
     rt: &HostRuntime,
     matches: &ArgMatches<'_>,
@@ -85,8 +88,10 @@ fn diff_tables(
     diff_by_names(rt, matches, files, &names, &tolerances, target)
 }
 
-/// Compares two files of documents with the given keys and rules. Writes the report to the target,
-/// warns about paths in options that were not found, and returns the exit status.
+/// Compares the files of documents `left` and `right` with the given keys and rules. The other
+/// options are those in `matches`. Writes the report to `target`, and returns the exit status.
+/// Prints warnings about paths in options at which no document has a part. Fails if an option is
+/// invalid, or if the comparison fails.
 fn diff_by_paths(
     rt: &HostRuntime,
     matches: &ArgMatches<'_>,
@@ -114,8 +119,9 @@ fn diff_by_paths(
     Ok(status)
 }
 
-/// Compares two files of documents with the options in `matches`. Writes the report to the target,
-/// and returns the exit status. Fails if an option is only for tables.
+/// Compares the two files of documents `files` with the options in `matches`. Writes the report to
+/// `target`, and returns the exit status. Fails if an option is only for tables, if an option is
+/// invalid, or if the comparison fails.
 fn diff_documents(
     rt: &HostRuntime,
     matches: &ArgMatches<'_>,
@@ -128,19 +134,20 @@ fn diff_documents(
     diff_by_paths(rt, matches, files, &keys, &rules, target)
 }
 
-/// Runs `dunkelva diff`: compares the two files that the command line or the config file names, and
-/// returns the exit status.
+/// Runs `dunkelva diff`: compares the two files that the command line and the config file name, or
+/// only their schemas with `--schema-only`. Returns the exit status. Fails if the files or the
+/// options can't be used together, or if the comparison fails.
 fn diff(rt: &HostRuntime, matches: &ArgMatches<'_>, config: &Config) -> Result<u8> {
     let (first, second) = (matches.get_str("left"), matches.get_str("right"));
     let (left, right) = named_files(first, second, config)?;
     let target = target_of(rt, matches)?;
+    refuse_two_formats(rt, matches, left, right)?;
     if matches.get_flag("schema-only") {
         limit_of(matches)?;
         let shown = compare_schemas(rt, matches, left, right);
         return shown.map_err(|error| explained(rt, error, &[left, right]));
     }
     refuse_own_target(rt, &[left, right], target)?;
-    refuse_two_formats(rt, matches, left, right)?;
     if hold_documents(rt, matches, left, right)? {
         return diff_documents(rt, matches, (left, right), target);
     }
@@ -155,7 +162,8 @@ fn print_schema(rt: &HostRuntime, matches: &ArgMatches<'_>) -> Result<u8> {
     show_schema(rt, matches).map_err(|error| explained(rt, error, &[file]))
 }
 
-/// Runs the command in the parsed arguments `matches`, and returns the exit status.
+/// Runs the command in the parsed arguments `matches`, with the settings `config` of the config
+/// file, and returns the exit status. Fails if there is no command, or if the command fails.
 fn run_matches(rt: &HostRuntime, matches: &ArgMatches<'_>, config: &Config) -> Result<u8> {
     match matches.subcommand() {
         Some(("diff", matches)) => diff(rt, matches, config),
@@ -164,8 +172,8 @@ fn run_matches(rt: &HostRuntime, matches: &ArgMatches<'_>, config: &Config) -> R
     }
 }
 
-/// Prints an error of the command line on standard error. If there is advice, it stands in place of
-/// the usage.
+/// Prints `error`, which the parser returned for the arguments `words`, on standard error. If there
+/// is advice for this error, prints the advice in place of the usage.
 fn print_reason(rt: &HostRuntime, words: &[&str], error: &clap::Error) -> Result<()> {
     let text = format!(in rt.alloc(); "{error}")?;
     match advice_for(rt, words, error.kind()) {
@@ -178,8 +186,8 @@ fn print_reason(rt: &HostRuntime, words: &[&str], error: &clap::Error) -> Result
     Ok(())
 }
 
-/// Prints an error of the command line, or the help or version that was asked for. Returns the exit
-/// status.
+/// Prints `error`, which the parser returned for the arguments `words`: an error of the command
+/// line on standard error, or else the help or version that was asked for. Returns the exit status.
 fn print_refusal(rt: &HostRuntime, words: &[&str], error: &clap::Error) -> Result<u8> {
     if error.use_stderr() {
         print_reason(rt, words, error)?;
@@ -189,7 +197,9 @@ fn print_refusal(rt: &HostRuntime, words: &[&str], error: &clap::Error) -> Resul
     Ok(error.exit_code() as u8)
 }
 
-/// Parses the arguments `words`, runs their command, and returns the exit status.
+/// Parses the arguments `words`, runs the command they give with the settings `config` of the
+/// config file, and returns the exit status. If `words` can't be parsed, or ask for help or the
+/// version, prints the error or the text instead.
 fn run_command(rt: &HostRuntime, words: &[&str], config: &Config) -> Result<u8> {
     let command = command(rt.alloc())?;
     match command.try_get_matches_from(words) {
@@ -198,8 +208,8 @@ fn run_command(rt: &HostRuntime, words: &[&str], config: &Config) -> Result<u8> 
     }
 }
 
-/// Runs the command line `words` together with the options of the config file, and returns the exit
-/// status. An error about an option of the file names the file.
+/// Runs the command line `words` together with the options in `config`, the settings of the config
+/// file. Returns the exit status. An error about an option that the file sets names the file.
 fn run_set(rt: &HostRuntime, words: &[String], config: &Config) -> Result<u8> {
     let all = joined(rt.alloc(), words, &config.words)?;
     match run_command(rt, &all, config) {
@@ -208,8 +218,8 @@ fn run_set(rt: &HostRuntime, words: &[String], config: &Config) -> Result<u8> {
     }
 }
 
-/// Reads the config file that the command line names, if there is one. Runs the command, and
-/// returns the exit status.
+/// Reads the config file that the command line `words` names, if there is one, and runs the
+/// command. Returns the exit status.
 fn run_given(rt: &HostRuntime, words: &[String]) -> Result<u8> {
     let config = config_for(rt, words)?;
     run_set(rt, words, &config)

@@ -28,8 +28,8 @@ pub(crate) fn form_in(matches: &ArgMatches<'_>) -> Form {
     }
 }
 
-/// Prints a text on standard output, and returns `status`. If standard output is a closed pipe, no
-/// error is printed, and the status is 2.
+/// Prints `text` on standard output, and returns `status`. If standard output is a closed pipe,
+/// prints no error and returns 2. Fails if the output fails for another reason.
 pub(crate) fn print_text(rt: &HostRuntime, text: &[u8], status: u8) -> Result<u8> {
     let mut out = io::writer(rt);
     match out.write_all(text) {
@@ -39,8 +39,9 @@ pub(crate) fn print_text(rt: &HostRuntime, text: &[u8], status: u8) -> Result<u8
     }
 }
 
-/// Reads a file of JSON documents, and returns the schema of their paths, as text or as JSON
-/// (`form_in`).
+/// Reads the file `file` of JSON documents, and returns the schema of the documents' paths, written
+/// as text or as JSON (`form_in`). Fails if an option is given that is only for CSV files, or if
+/// the schema can't be read.
 fn documents_text(rt: &HostRuntime, matches: &ArgMatches<'_>, file: &str) -> Result<Vec<u8>> {
     refuse_of_tables(matches)?;
     let reader = open(rt, file, false)?;
@@ -53,7 +54,9 @@ fn documents_text(rt: &HostRuntime, matches: &ArgMatches<'_>, file: &str) -> Res
     }
 }
 
-/// Reads a CSV file, and returns the schema of its columns, as text or as JSON (`form_in`).
+/// Reads the CSV file `file` with `options`, and returns the schema of its columns, written as text
+/// or as JSON (`form_in`). Fails if the schema can't be read. Unless `--input` is given, also fails
+/// if the file begins like a JSON document.
 fn schema_text(
     rt: &HostRuntime,
     matches: &ArgMatches<'_>,
@@ -70,7 +73,8 @@ fn schema_text(
 }
 
 /// Prints the schema of the file given as argument, or of standard input, and returns the exit
-/// status.
+/// status. Fails if standard output is this file, if an option does not fit the kind of the file,
+/// or if the schema can't be read.
 pub(crate) fn show_schema(rt: &HostRuntime, matches: &ArgMatches<'_>) -> Result<u8> {
     let file = matches.get_str("file").unwrap_or("-");
     refuse_own_output(rt, &[file])?;

@@ -22,8 +22,9 @@ use schema_report::files::Files;
 use schema_run::read::{TableSchema, read_schema};
 use schema_run::said::Form;
 
-/// Reads a CSV file, and returns the schemas of its columns. `has_stdin` is true if one of the two
-/// inputs is standard input.
+/// Reads the CSV file `file` with `options`, and returns the schemas of its columns. `has_stdin`
+/// says whether one of the two inputs is standard input. Fails if the schema can't be read. Unless
+/// `--input` is given, also fails if the file begins like a JSON document.
 fn columns_in(
     rt: &HostRuntime,
     matches: &ArgMatches<'_>,
@@ -38,8 +39,8 @@ fn columns_in(
     }
 }
 
-/// Reads a file of JSON documents, and returns the schemas of their paths. `has_stdin` is true if
-/// one of the two inputs is standard input.
+/// Reads the file `file` of JSON documents, and returns the schemas of their paths. `has_stdin`
+/// says whether one of the two inputs is standard input. Fails if the schema can't be read.
 fn paths_in(
     rt: &HostRuntime,
     matches: &ArgMatches<'_>,
@@ -53,7 +54,7 @@ fn paths_in(
     }
 }
 
-/// Returns the names of two files as bytes.
+/// Returns the file names `left` and `right` as bytes.
 fn names_of<'a>(left: &'a str, right: &'a str) -> Files<'a> {
     Files {
         left: left.as_bytes(),
@@ -61,7 +62,8 @@ fn names_of<'a>(left: &'a str, right: &'a str) -> Files<'a> {
     }
 }
 
-/// Returns the exit status: 0 if the counts have no difference, and else 1.
+/// Returns the exit status for schemas with `counts` differences: 0 if nothing was changed, removed
+/// or added, and else 1.
 fn status_of(counts: SchemaCounts) -> u8 {
     if counts.changed == 0 && counts.removed == 0 && counts.added == 0 {
         0
@@ -70,7 +72,8 @@ fn status_of(counts: SchemaCounts) -> u8 {
     }
 }
 
-/// Prints the differences between the schemas of two tables, and returns the exit status.
+/// Prints the differences between the schemas `before` and `after` of two tables in the format
+/// `form`, and returns the exit status. `files` are the names of the tables' files.
 fn print_columns(
     rt: &HostRuntime,
     form: Form,
@@ -87,8 +90,9 @@ fn print_columns(
     print_text(rt, &text, status_of(counts_of(before, after)))
 }
 
-/// Compares the column schemas of two CSV files, prints the differences, and returns the exit
-/// status. `has_stdin` is true if one of them is standard input.
+/// Compares the schemas of the columns of the CSV files `left` and `right`, prints the differences,
+/// and returns the exit status. `has_stdin` says whether one of the files is standard input. Fails
+/// if an option is given that is only for documents, or if a schema can't be read.
 fn compare_columns(
     rt: &HostRuntime,
     matches: &ArgMatches<'_>,
@@ -104,8 +108,8 @@ fn compare_columns(
     print_columns(rt, form_in(matches), files, &before, &after)
 }
 
-/// Prints the differences between the schemas of two files of documents, and returns the exit
-/// status.
+/// Prints the differences between the schemas `before` and `after` of two files of documents in the
+/// format `form`, and returns the exit status. `files` are the names of the files.
 fn print_paths(
     rt: &HostRuntime,
     form: Form,
@@ -121,8 +125,9 @@ fn print_paths(
     print_text(rt, &text, status_of(counts_of(&before.paths, &after.paths)))
 }
 
-/// Compares the path schemas of two files of documents, prints the differences, and returns the
-/// exit status. `has_stdin` is true if one of them is standard input.
+/// Compares the schemas of the paths in the files of documents `left` and `right`, prints the
+/// differences, and returns the exit status. `has_stdin` says whether one of the files is standard
+/// input. Fails if an option is given that is only for CSV files, or if a schema can't be read.
 fn compare_paths(
     rt: &HostRuntime,
     matches: &ArgMatches<'_>,
@@ -137,9 +142,10 @@ fn compare_paths(
     print_paths(rt, form_in(matches), files, &before, &after)
 }
 
-/// Compares the schemas of two files, prints the differences, and returns the exit status. Fails if
-/// an option does not go with `--schema-only`, if both files are standard input, or if standard
-/// output is one of the files.
+/// Compares the schemas of the files `left` and `right`, prints the differences, and returns the
+/// exit status. Fails if an option does not go with `--schema-only` or with the kind of the files,
+/// if both files are standard input, if standard output is one of the files, or if a schema can't
+/// be read.
 pub(crate) fn compare_schemas(
     rt: &HostRuntime,
     matches: &ArgMatches<'_>,

@@ -23,7 +23,7 @@ use std::alloc::Global;
 use std::io::{ErrorKind, IsTerminal, Write};
 use std::{fs, io};
 
-/// The result of a comparison that ended without an error.
+/// The result of a comparison that ended without an error. It decides the exit status.
 #[derive(Clone, Copy)]
 enum Ending {
     Same,
@@ -33,7 +33,7 @@ enum Ending {
 }
 
 impl Ending {
-    /// Returns the exit status of the program.
+    /// Returns the exit status of the program: 0 for `Same`, 1 for `Different`, and 2 for `Unread`.
     fn status(self) -> u8 {
         match self {
             Ending::Same => 0,
@@ -73,8 +73,8 @@ impl Task<'_> {
     }
 }
 
-/// Prints advice on standard error if that is a terminal, and rows that were matched by position
-/// differ.
+/// Prints advice on standard error to give `--key`, if `ending` is `Different`, no key is given for
+/// `task`, and standard error is a terminal.
 fn advise(rt: &HostRuntime, task: Task<'_>, ending: Ending) {
     if let Ending::Different = ending
         && task.is_by_position()
@@ -84,7 +84,8 @@ fn advise(rt: &HostRuntime, task: Task<'_>, ending: Ending) {
     }
 }
 
-/// Creates an input with a name. The bytes read from it are reported to `progress`.
+/// Returns an input named `name` that reads from `source`. The numbers of bytes read are reported
+/// to `progress`.
 fn counted<'a>(
     name: &'a str,
     source: Source,
@@ -96,8 +97,8 @@ fn counted<'a>(
     }
 }
 
-/// Returns the result of a comparison whose report could not be written. A closed pipe is not an
-/// error, and gives `Unread`.
+/// Returns the result of a comparison of which the report could not be written because of `cause`.
+/// If `cause` is a closed pipe, returns `Unread`. Fails for all other causes.
 fn unwritten(cause: io::Error) -> Result<Ending> {
     if cause.kind() == ErrorKind::BrokenPipe {
         return Ok(Ending::Unread);
@@ -105,7 +106,8 @@ fn unwritten(cause: io::Error) -> Result<Ending> {
     Err(trouble!("{cause}").context("standard output"))
 }
 
-/// Converts the result of a comparison of tables. An error becomes the error to print.
+/// Converts `came_to`, the result of a comparison of the tables named `names`. A closed pipe is not
+/// an error (`unwritten`). Any other error becomes the error to print.
 fn tables_ending(
     rt: &HostRuntime,
     came_to: Result<Outcome, RunError>,
@@ -119,7 +121,8 @@ fn tables_ending(
     }
 }
 
-/// Converts the result of a comparison of sorted tables. An error becomes the error to print.
+/// Converts `came_to`, the result of a comparison of the sorted tables named `names`. A closed pipe
+/// is not an error (`unwritten`). Any other error becomes the error to print.
 fn sorted_ending(
     rt: &HostRuntime,
     came_to: Result<Outcome, SortedError>,
@@ -133,7 +136,8 @@ fn sorted_ending(
     }
 }
 
-/// Converts the result of a comparison of documents. An error becomes the error to print.
+/// Converts `came_to`, the result of a comparison of the files of documents named `names`. A closed
+/// pipe is not an error (`unwritten`). Any other error becomes the error to print.
 fn documents_ending(
     rt: &HostRuntime,
     came_to: Result<Outcome, DocumentError>,
@@ -147,7 +151,8 @@ fn documents_ending(
     }
 }
 
-/// Compares two inputs, and writes the report to `out`. `names` are the names of the inputs.
+/// Runs the comparison `task` of the inputs `left` and `right`, which have the names `names`, and
+/// writes the report to `out`. Returns the result, or the error to print.
 fn report_to<W: Write>(
     rt: &HostRuntime,
     left: Source,
@@ -175,14 +180,15 @@ fn report_to<W: Write>(
     }
 }
 
-/// A report, and the result of the comparison.
+/// A finished report, and the result of the comparison.
 #[derive(Drop)]
 struct Made {
     report: Vec<u8>,
     ending: Ending,
 }
 
-/// Compares two inputs, and returns the report.
+/// Runs the comparison `task` of the inputs `left` and `right`, which have the names `names`, and
+/// returns the report and the result.
 fn report_of(
     rt: &HostRuntime,
     left: Source,
@@ -196,7 +202,8 @@ fn report_of(
     Ok(Made { report, ending })
 }
 
-/// Compares two inputs, and prints the report on standard output.
+/// Runs the comparison `task` of the inputs `left` and `right`, which have the names `names`, and
+/// prints the report on standard output while it is made. Returns the result.
 fn print_report(
     rt: &HostRuntime,
     left: Source,
@@ -212,8 +219,9 @@ fn print_report(
     report_to(rt, left, right, names, progress, task, &mut out)
 }
 
-/// Prints a text on standard output. Returns `ending`, or `Unread` if standard output is a closed
-/// pipe.
+/// Erases the progress line, if it is visible, and prints `text` on standard output. Returns
+/// `ending`, or `Unread` if standard output is a closed pipe. Fails if the output fails for another
+/// reason.
 fn print_text(
     rt: &HostRuntime,
     text: &[u8],
@@ -230,7 +238,8 @@ fn print_text(
     }
 }
 
-/// Writes an HTML page to the file at `path`, and returns `ending`.
+/// Writes the HTML page `page` to the file at `path`, and returns `ending`. Fails if the file can't
+/// be written.
 fn write_page(rt: &HostRuntime, page: &[u8], path: &str, ending: Ending) -> Result<Ending> {
     match fs::write(rt, path, page) {
         Ok(()) => Ok(ending),
@@ -238,8 +247,9 @@ fn write_page(rt: &HostRuntime, page: &[u8], path: &str, ending: Ending) -> Resu
     }
 }
 
-/// Converts a report to the form that the target needs, and appends it to `text`. Markdown, aligned
-/// columns and pages are made of a report of JSON lines.
+/// Converts `report` to the form that `target` needs, and appends the result to `text`. For
+/// Markdown, aligned columns and pages, `report` has JSON lines. `names` are the names of the two
+/// inputs.
 fn push_form(
     alloc: Global,
     text: &mut Vec<u8>,
@@ -264,7 +274,8 @@ fn push_form(
     Ok(())
 }
 
-/// Converts a report to the form that the target needs, and writes it to the target.
+/// Converts the report in `made` to the form that `target` needs, and writes it to `target`.
+/// Returns the result of the comparison, or `Unread` if standard output is a closed pipe.
 fn show(
     rt: &HostRuntime,
     made: &Made,
@@ -280,8 +291,9 @@ fn show(
     }
 }
 
-/// Compares two inputs, and writes the report to the target. A report for standard output is
-/// written while it is made.
+/// Runs the comparison `task` of the inputs `left` and `right`, which have the names `names`.
+/// Writes the report to `target`, and returns the result. For `Target::Output` the report is
+/// written while it is made, and for other targets at the end.
 fn compared(
     rt: &HostRuntime,
     left: Source,
@@ -298,8 +310,9 @@ fn compared(
     show(rt, &made, names, progress, target)
 }
 
-/// Compares two inputs, writes the report to the target, and returns the exit status. Shows the
-/// progress meanwhile.
+/// Runs the comparison `task` of the inputs `left` and `right`, which have the names `names`.
+/// Writes the report to `target`, shows the progress meanwhile, and prints advice at the end
+/// (`advise`). Returns the exit status.
 fn compare(
     rt: &HostRuntime,
     left: Source,
@@ -320,7 +333,9 @@ fn compare(
     }
 }
 
-/// Opens an input. Reads of it fail if it begins like a JSON document, unless it may.
+/// Opens the input named `name`. `has_stdin` says whether one of the inputs is standard input.
+/// Unless `may_be_documents` is true, reading the input fails if it begins like a JSON document.
+/// Fails if the input can't be opened.
 pub(crate) fn open_for(
     rt: &HostRuntime,
     name: &str,
@@ -335,9 +350,10 @@ pub(crate) fn open_for(
     }
 }
 
-/// Opens the two named inputs, compares them, writes the report to the target, and returns the exit
-/// status. The name `-` is standard input. Fails if both inputs are standard input, and if one of
-/// them begins like a JSON document, unless `may_be_documents` is true.
+/// Opens the inputs named `left` and `right`, runs the comparison `task`, writes the report to
+/// `target`, and returns the exit status. The name `-` is standard input. Fails if both inputs are
+/// standard input, if an input can't be opened, or if the comparison fails. Unless
+/// `may_be_documents` is true, it fails if an input begins like a JSON document.
 pub(crate) fn compare_named(
     rt: &HostRuntime,
     left: &str,

@@ -24,7 +24,8 @@ use json_tolerances::closeness::Margin;
 use schema_paths::error::SchemaError;
 use std::io::ErrorKind;
 
-/// Returns the name of the input on a side.
+/// Returns the name of the input on the side `side`. `names` are the names of the left and the
+/// right input.
 fn file_of<'a>(names: (&'a str, &'a str), side: Side) -> &'a str {
     match side {
         Side::Left => names.0,
@@ -32,7 +33,8 @@ fn file_of<'a>(names: (&'a str, &'a str), side: Side) -> &'a str {
     }
 }
 
-/// Returns the name of the left input if it can be read again, and else that of the right one.
+/// Returns the name of the left input if this input can be read again, and else the name of the
+/// right one. `names` are both names.
 fn stored_of<'a>(rt: &HostRuntime, names: (&'a str, &'a str)) -> &'a str {
     if open_again(rt, names.0).is_some() {
         names.0
@@ -41,7 +43,8 @@ fn stored_of<'a>(rt: &HostRuntime, names: (&'a str, &'a str)) -> &'a str {
     }
 }
 
-/// Returns the error for a record whose number of fields differs from that of the first record.
+/// Returns the error for a record at the line `line` that has `found` fields, while the first
+/// record has `expected`. `csv` says whether the first record is a header.
 fn other_length(line: u64, found: u64, expected: u64, csv: CsvOptions) -> Error {
     let first = if csv.has_header {
         "header"
@@ -52,9 +55,10 @@ fn other_length(line: u64, found: u64, expected: u64, csv: CsvOptions) -> Error 
     trouble!("line {line} has {found} {fields}, the {first} has {expected}")
 }
 
-/// Returns the error for a CSV file that can't be read. Records of different lengths and open
-/// quotes are marked as the cause, so that a hint can be added. A read fails with `InvalidData` if
-/// the file begins like a JSON document.
+/// Returns the error to print for `cause`, an error in reading a CSV file with the options `csv`.
+/// Errors for a record of another length and for an open quote are marked with their cause, so that
+/// a hint can be added later. A read that failed with `InvalidData` means that the file begins like
+/// a JSON document.
 pub(crate) fn csv_trouble(cause: &CsvError, csv: CsvOptions) -> Error {
     match cause {
         CsvError::Length {
@@ -80,7 +84,7 @@ fn text_of(name: &[u8]) -> &str {
     str::from_utf8(name).unwrap_or("-")
 }
 
-/// Returns whether a file is a regular file of 0 bytes.
+/// Returns whether `file` is a regular file of 0 bytes that can be read again.
 fn is_empty(rt: &HostRuntime, file: &str) -> bool {
     open_again(rt, file).is_some_and(|source| source.size() == Some(0))
 }
@@ -88,8 +92,8 @@ fn is_empty(rt: &HostRuntime, file: &str) -> bool {
 /// The hint for an input that lacks a key column and can't be read again.
 const UNSEEN: &str = "its columns are shown only for a file, and JSON lines need --input ndjson";
 
-/// Returns the error for a file that lacks a key column. `key` is the index of the key. A hint says
-/// what is wrong with the file, or lists its columns.
+/// Returns the error for `file`, which lacks the key column at the index `key` of the keys in
+/// `options`. A hint says what is wrong with the file, or lists its columns.
 fn no_key(rt: &HostRuntime, file: &str, key: usize, options: &Options<'_>) -> Error {
     let Some(name) = options.choice.keys.get(key) else {
         return trouble!("a key column is missing");
@@ -114,7 +118,7 @@ fn no_key(rt: &HostRuntime, file: &str, key: usize, options: &Options<'_>) -> Er
     }
 }
 
-/// Returns the name of the option that gives a tolerance.
+/// Returns the name of the option that gives `tolerance`: `ABSOLUTE` or `RELATIVE`.
 fn option_of(tolerance: &Tolerance<'_>) -> &'static str {
     match tolerance.margin {
         Margin::Absolute(_) => ABSOLUTE,
@@ -122,8 +126,8 @@ fn option_of(tolerance: &Tolerance<'_>) -> &'static str {
     }
 }
 
-/// Returns the name of the option that gives a list of names, and the names. For tolerances the
-/// names are empty.
+/// Returns the name of the option that gives the list `list`, and the names in the list. For
+/// tolerances the slice of names is empty.
 fn names_in<'a>(list: NameList, options: &Options<'a>) -> (&'static str, &'a [&'a [u8]]) {
     match list {
         NameList::Only => ("only", options.choice.only.unwrap_or(&[])),
@@ -133,8 +137,8 @@ fn names_in<'a>(list: NameList, options: &Options<'a>) -> (&'static str, &'a [&'
     }
 }
 
-/// Returns the error for a name that is not the name of a column of either file. A hint lists the
-/// columns of `file`, if it can be read again.
+/// Returns the error for the name `name` in the option named `option`, which is not the name of a
+/// column of either file. A hint lists the columns of `file`, if `file` can be read again.
 fn unknown_column(
     rt: &HostRuntime,
     file: &str,
@@ -152,8 +156,8 @@ fn unknown_column(
     }
 }
 
-/// Returns the error for a tolerance whose column neither file has. `place` is the index of the
-/// tolerance.
+/// Returns the error for a tolerance for a column that neither file has. `place` is the index of
+/// the tolerance in `options`. A hint lists the columns of `file`, if `file` can be read again.
 fn no_tolerance_column(rt: &HostRuntime, file: &str, place: usize, options: &Options<'_>) -> Error {
     let tolerances = options.tolerances.unwrap_or(&[]);
     match tolerances.get(place) {
@@ -165,8 +169,8 @@ fn no_tolerance_column(rt: &HostRuntime, file: &str, place: usize, options: &Opt
     }
 }
 
-/// Returns the error for a name in a list that is not the name of a column of either file. `place`
-/// is the index of the name in the list.
+/// Returns the error for the name at the index `place` of the list `list`, which is not the name of
+/// a column of either file. A hint lists the columns of `file`, if `file` can be read again.
 fn no_column(
     rt: &HostRuntime,
     file: &str,
@@ -184,7 +188,7 @@ fn no_column(
     }
 }
 
-/// Adds a hint to an error, if there is one.
+/// Returns `error` with the hint `hint` added, or unchanged if `hint` is `None`.
 fn with_hint(error: Error, hint: Option<String>) -> Error {
     match hint {
         Some(hint) => error.hint(hint),
@@ -192,14 +196,14 @@ fn with_hint(error: Error, hint: Option<String>) -> Error {
     }
 }
 
-/// Returns the error for two rows or documents with the same key. `first` and `again` are the
-/// numbers of their lines. The key becomes the hint, if it is given.
+/// Returns the error for two rows or documents with the same key, at the lines `first` and `again`.
+/// If `key`, the key as text, is given, it becomes the hint.
 fn one_key(first: u64, again: u64, key: Option<String>) -> Error {
     with_hint(trouble!("lines {first} and {again} have the same key"), key)
 }
 
-/// Returns the error for two rows of a file that have the same key. `first` and `again` are the
-/// numbers of their lines.
+/// Returns the error for two rows of `file` with the same key, at the lines `first` and `again`.
+/// The error names the file. If the row can be read again, the key becomes the hint.
 fn rows_of_one_key(
     rt: &HostRuntime,
     file: &str,
@@ -210,8 +214,8 @@ fn rows_of_one_key(
     one_key(first, again, row_key(rt, file, first, options)).context(file)
 }
 
-/// Returns the error for a number with an exponent of more than 30 digits. `name` is the name of
-/// its column.
+/// Returns the error for a number at the line `line`, in the column `name`, that has an exponent of
+/// more than 30 digits.
 fn wide_exponent(line: u64, name: &[u8]) -> Error {
     trouble!(
         "line {line}: a number in column {:?} has an exponent of more than 30 digits: see --text",
@@ -219,8 +223,9 @@ fn wide_exponent(line: u64, name: &[u8]) -> Error {
     )
 }
 
-/// Returns the error for a column whose name an earlier column of the file has. The first column is
-/// 0.
+/// Returns the error for the column at the index `column` of `file`, from 0, which has the name of
+/// an earlier column. If the name can be read again, a hint gives it. If `file` also begins with
+/// `{`, the error is instead marked as one of a file that is not CSV.
 fn name_twice(rt: &HostRuntime, file: &str, column: usize, options: &Options<'_>) -> Error {
     let number = column.saturating_add(1);
     let error = trouble!("column {number} has the name of an earlier column");
@@ -231,7 +236,8 @@ fn name_twice(rt: &HostRuntime, file: &str, column: usize, options: &Options<'_>
     }
 }
 
-/// Returns the error to print if columns can't be matched. It names the file.
+/// Returns the error to print for `cause`, the reason why the columns of the files `names` can't be
+/// matched. The error names the file, unless memory ran out.
 fn columns_trouble(
     rt: &HostRuntime,
     cause: ColumnError,
@@ -251,8 +257,8 @@ fn columns_trouble(
     }
 }
 
-/// Returns the error to print for an error in a comparison of tables. It names the file, if it is
-/// about one.
+/// Returns the error to print for `error`, which occurred in a comparison of the tables named
+/// `names`. If `error` is about one of the two files, the returned error names this file.
 pub(crate) fn table_trouble(
     rt: &HostRuntime,
     error: &RunError,
@@ -277,8 +283,8 @@ pub(crate) fn table_trouble(
     }
 }
 
-/// Returns the error for a row whose key is less than that of the row before it. A hint has a
-/// command that sorts the file.
+/// Returns the error for the row of `file` at the line `line`, which has a lesser key than the row
+/// before it. A hint gives a command that sorts the file. The error names the file.
 fn lesser_key(rt: &HostRuntime, file: &str, line: u64, options: &Options<'_>) -> Error {
     let error = trouble!("the row at line {line} has a lesser key than the row before it");
     let error = match sort_command(rt, file, options) {
@@ -290,8 +296,8 @@ fn lesser_key(rt: &HostRuntime, file: &str, line: u64, options: &Options<'_>) ->
     error.context(file)
 }
 
-/// Returns the error to print for an error in a comparison of sorted tables. It names the file, if
-/// it is about one.
+/// Returns the error to print for `error`, which occurred in a comparison of the sorted tables
+/// named `names`. If `error` is about one of the two files, the returned error names this file.
 pub(crate) fn sorted_trouble(
     rt: &HostRuntime,
     error: &SortedError,
@@ -309,8 +315,8 @@ pub(crate) fn sorted_trouble(
     }
 }
 
-/// Returns the error that says why a line is not a document. `keys` are the paths of the key, as
-/// text.
+/// Returns the error that says why a line can't be used as a document. `fault` is the reason.
+/// `keys` are the paths of the key, as text.
 fn fault_text(fault: LineFault, keys: &[&[u8]]) -> Error {
     match fault {
         LineFault::NoPart { key } => match keys.get(key) {
@@ -323,8 +329,9 @@ fn fault_text(fault: LineFault, keys: &[&[u8]]) -> Error {
     }
 }
 
-/// Returns the error for a line that is not a document. `column` is the column of the fault in the
-/// line, if it is known, and the first column is 1. `keys` are the paths of the key, as text.
+/// Returns the error for the line `line`, which is not a document for the reason `fault`. `column`
+/// is the place of the fault in the line, from 1, if it is known. `keys` are the paths of the key,
+/// as text.
 fn line_trouble(line: u64, column: Option<u64>, fault: LineFault, keys: &[&[u8]]) -> Error {
     let text = fault_text(fault, keys);
     let Some(column) = column else {
@@ -337,8 +344,8 @@ fn line_trouble(line: u64, column: Option<u64>, fault: LineFault, keys: &[&[u8]]
     }
 }
 
-/// Returns the error for a file of documents that can't be read. `keys` are the paths of the key,
-/// as text.
+/// Returns the error to print for `cause`, an error in reading a file of documents. `keys` are the
+/// paths of the key, as text.
 fn read_trouble(cause: &ReadError, keys: &[&[u8]]) -> Error {
     match cause {
         ReadError::Line {
@@ -350,10 +357,11 @@ fn read_trouble(cause: &ReadError, keys: &[&[u8]]) -> Error {
     }
 }
 
-/// The message if `--skip-bad` would skip all lines of a file.
+/// The message for a file of which `--skip-bad` would skip every line.
 const ALL_SKIPPED: &str = "--skip-bad would skip every line";
 
-/// Returns the error to print if the schema of a file of documents can't be read.
+/// Returns the error to print for `error`, the reason why the schema of a file of documents can't
+/// be read.
 pub(crate) fn schema_trouble(error: &SchemaError) -> Error {
     match error {
         SchemaError::Read { cause } => read_trouble(cause, &[]),
@@ -362,8 +370,9 @@ pub(crate) fn schema_trouble(error: &SchemaError) -> Error {
     }
 }
 
-/// Returns a hint if a line of a file lacks a part of the key: the names in the document.
-/// Otherwise, or if the file can't be read again, returns `None`.
+/// Returns a hint about the missing part, if `cause` is that a document of `file` lacks a part of
+/// the key. The hint usually lists the names in the document (`members_hint`). `keys` are the paths
+/// of the key, as text. Returns `None` for other causes, or if there is no hint.
 fn key_hint(rt: &HostRuntime, file: &str, cause: &ReadError, keys: &[&[u8]]) -> Option<String> {
     match cause {
         ReadError::Line {
@@ -375,14 +384,15 @@ fn key_hint(rt: &HostRuntime, file: &str, cause: &ReadError, keys: &[&[u8]]) -> 
     }
 }
 
-/// Returns the error for a file of documents that can't be read, with the name of the file. `keys`
-/// are the paths of the key, as text.
+/// Returns the error to print for `cause`, an error in reading the documents of `file`. The error
+/// names the file, and has a hint if a part of the key is missing (`key_hint`). `keys` are the
+/// paths of the key, as text.
 fn unread(rt: &HostRuntime, file: &str, cause: &ReadError, keys: &[&[u8]]) -> Error {
     with_hint(read_trouble(cause, keys), key_hint(rt, file, cause, keys)).context(file)
 }
 
-/// Returns the error to print for an error in a comparison of documents. It names the file, if it
-/// is about one.
+/// Returns the error to print for `error`, which occurred in a comparison of the files of documents
+/// named `names`. If `error` is about one of the two files, the returned error names this file.
 pub(crate) fn document_trouble(
     rt: &HostRuntime,
     error: &DocumentError,

@@ -1,9 +1,10 @@
 //! Warnings about paths in options at which no document has a part.
 //!
-//! If `--only` has no other paths, no difference is found, whatever the documents are. A misspelt
-//! path of `--ignore` or a tolerance has no effect. One of the key, with `--no-key-is-null`, gives
-//! all documents the key null. Such paths are therefore reported on standard error after the
-//! comparison. For this the files are read again.
+//! If no document has a part at any path of `--only`, no difference is found, whatever the
+//! documents are. A misspelt path of `--ignore` or of a tolerance has no effect. With
+//! `--no-key-is-null`, a misspelt path of `--key` makes this part of the key null in all documents.
+//! Such paths are therefore reported on standard error after the comparison. For this the files are
+//! read again.
 
 use clap::ArgMatches;
 use dunkelva_messages::files::open_again;
@@ -28,7 +29,8 @@ enum Named<'p> {
     Part(&'p Path),
 }
 
-/// A path in an option, and whether a document had a part there.
+/// A path to look for: the option that gives the path, the path's text and meaning, and whether a
+/// document that has a part there was found.
 #[derive(Clone, Copy)]
 struct Sought<'a, 'p> {
     option: &'static str,
@@ -37,25 +39,25 @@ struct Sought<'a, 'p> {
     is_found: bool,
 }
 
-/// A search for paths in documents.
+/// A search for the paths `sought` in the documents of one or two files.
 #[derive(Drop)]
 struct Search<'a, 'p> {
     sought: Vec<Sought<'a, 'p>>,
-    /// `true` if a document was read.
+    /// `true` if a line with a JSON object was read.
     has_documents: bool,
 }
 
-/// The second file, if the first one can be read again.
+/// The second of the two files, after a first one that can be read again.
 #[derive(Clone, Copy)]
 enum Second<'f> {
-    /// A file that can be read again.
+    /// The name of a file that can be read again.
     Stored(&'f str),
-    /// A pipe, for example.
+    /// The name of an input that can't be read again, such as a pipe.
     Gone(&'f str),
 }
 
-/// Appends the parts of a value to which one step of a pattern leads: at most one part, or all
-/// items of an array. Appends nothing if the step leads nowhere.
+/// Appends to `parts` the parts of `value` to which `step` leads: at most one part, or all items of
+/// an array. Appends nothing if the step leads nowhere.
 fn push_inside<'v, 'a>(
     parts: &mut Vec<&'v Value<'a>>,
     step: &PatternStep,
@@ -77,7 +79,7 @@ fn push_inside<'v, 'a>(
     Ok(())
 }
 
-/// Returns whether a document has a part that a pattern names.
+/// Returns whether `document` has a part that fits `pattern`.
 fn has_part(alloc: Global, pattern: &Pattern, document: &Value<'_>) -> Result<bool, AllocError> {
     let mut parts = Vec::new(alloc);
     parts.push(document)?;
@@ -92,7 +94,7 @@ fn has_part(alloc: Global, pattern: &Pattern, document: &Value<'_>) -> Result<bo
 }
 
 impl Named<'_> {
-    /// Returns whether a document has a part that the path names.
+    /// Returns whether `document` has a part that fits the pattern, or the part at the path.
     fn is_in(self, alloc: Global, document: &Value<'_>) -> Result<bool, AllocError> {
         match self {
             Named::Parts(pattern) => has_part(alloc, pattern, document),
@@ -101,7 +103,8 @@ impl Named<'_> {
     }
 }
 
-/// Appends the paths of an option, each with the pattern that was parsed from it.
+/// Appends the paths in the lists of the option named `option` to `sought`. `patterns` are the
+/// patterns parsed from these paths, in the same order.
 fn push_patterns<'a, 'p>(
     sought: &mut Vec<Sought<'a, 'p>>,
     alloc: Global,
@@ -129,7 +132,7 @@ fn path_in(text: &str) -> &str {
     }
 }
 
-/// Returns the name of the option that gives a tolerance.
+/// Returns the name of the option that gives `tolerance`: `ABSOLUTE` or `RELATIVE`.
 fn option_of(tolerance: &Tolerance) -> &'static str {
     match tolerance.margin {
         Margin::Absolute(_) => ABSOLUTE,
@@ -137,7 +140,8 @@ fn option_of(tolerance: &Tolerance) -> &'static str {
     }
 }
 
-/// Appends the paths of the tolerances of both options.
+/// Appends the paths of `--tolerance` and `--relative-tolerance` to `sought`. `tolerances` are the
+/// tolerances parsed from the values of these options, in this order.
 fn push_tolerances<'a, 'p>(
     sought: &mut Vec<Sought<'a, 'p>>,
     alloc: Global,
@@ -159,7 +163,8 @@ fn push_tolerances<'a, 'p>(
     Ok(())
 }
 
-/// Appends the paths of the key.
+/// Appends the paths of `--key` to `sought`. `paths` are the paths parsed from its lists, in the
+/// same order.
 fn push_keys<'a, 'p>(
     sought: &mut Vec<Sought<'a, 'p>>,
     alloc: Global,
@@ -178,9 +183,10 @@ fn push_keys<'a, 'p>(
     Ok(())
 }
 
-/// Returns the paths to look for. If one file can't be read again, these are only the paths of
-/// `--only`. Those of the key are looked for with `--no-key-is-null`; without it a missing part is
-/// an error.
+/// Returns the paths to look for. If `second` can't be read again, these are only the paths of
+/// `--only`. Otherwise they are also those of `--ignore` and of the tolerances, and with
+/// `--no-key-is-null` those of `--key`. Without `--no-key-is-null`, a missing part of the key is an
+/// error of the comparison.
 fn sought_in<'a, 'p>(
     alloc: Global,
     matches: &ArgMatches<'a>,
@@ -202,8 +208,8 @@ fn sought_in<'a, 'p>(
 }
 
 impl Search<'_, '_> {
-    /// Searches the document in a line for the paths. Ignores a line that is not a JSON object.
-    /// Fails if memory runs out.
+    /// Parses `line` as a document, and marks the paths at which the document has a part as found.
+    /// Ignores a line that is not a JSON object. Fails if memory runs out.
     fn read_line(&mut self, alloc: Global, line: &str) -> Result<(), AllocError> {
         let mut scratch = Scratch::new(alloc);
         let document = match Value::parse(alloc, line, &mut scratch) {
@@ -228,9 +234,9 @@ impl Search<'_, '_> {
         self.sought.iter().all(|sought| sought.is_found)
     }
 
-    /// Opens a regular file again, after the comparison has read it, and searches its lines for the
-    /// paths. Stops once every path is found. Returns `None` if the file isn't a regular file,
-    /// can't be opened or read, or if memory runs out.
+    /// Opens the regular file `file` again, after the comparison has read it, and searches its
+    /// lines for the paths. Stops once every path is found. Returns `None` if `file` isn't a
+    /// regular file, if it can't be opened or read, or if memory runs out.
     fn search_file(&mut self, rt: &HostRuntime, file: &str) -> Option<()> {
         let source = open_again(rt, file)?;
         let reader = BufReader::new(rt.alloc(), source).ok()?;
@@ -244,8 +250,9 @@ impl Search<'_, '_> {
         Some(())
     }
 
-    /// Searches one or two files for the paths. The second file is not read if all paths are found
-    /// in the first. Returns `None` if a file can't be read again, or if memory runs out.
+    /// Searches the file `first` for the paths, and then `second`, if it can be read again and a
+    /// path is not yet found. Returns `None` if a file to search can't be read, or if memory runs
+    /// out.
     fn search_files(&mut self, rt: &HostRuntime, first: &str, second: Second<'_>) -> Option<()> {
         self.search_file(rt, first)?;
         match second {
@@ -255,7 +262,9 @@ impl Search<'_, '_> {
     }
 }
 
-/// Prints a warning for a path at which no document has a part.
+/// Prints a warning on standard error that no document has a part at the path `sought`. If `second`
+/// was not searched, the warning names the file `first`, and says that the other one was not
+/// searched.
 fn warn(rt: &HostRuntime, sought: Sought<'_, '_>, first: &str, second: Second<'_>) {
     let (option, text) = (sought.option, sought.text);
     let _ = match second {
@@ -272,8 +281,8 @@ fn warn(rt: &HostRuntime, sought: Sought<'_, '_>, first: &str, second: Second<'_
     };
 }
 
-/// Returns the two files in the order in which they are searched: one that can be read again comes
-/// first. Returns `None` if neither can be read again.
+/// Returns the files `left` and `right` in the order in which they are searched: a file that can be
+/// read again comes first. Returns `None` if neither can be read again.
 fn in_order<'f>(rt: &HostRuntime, left: &'f str, right: &'f str) -> Option<(&'f str, Second<'f>)> {
     match (
         open_again(rt, left).is_some(),
@@ -286,8 +295,10 @@ fn in_order<'f>(rt: &HostRuntime, left: &'f str, right: &'f str) -> Option<(&'f 
     }
 }
 
-/// Searches the files for the paths in the options, and prints a warning for each path at which no
-/// document has a part. Returns `None` if a file can't be read again, or if memory runs out.
+/// Searches the files `left` and `right` for the paths in the options, and prints a warning for
+/// each path at which no document has a part. `keys` and `rules` are parsed from the options.
+/// Prints nothing if the searched files have no documents. Returns `None` if there is nothing to
+/// search for, if a file to search can't be read, or if memory runs out.
 fn search_and_warn(
     rt: &HostRuntime,
     matches: &ArgMatches<'_>,
@@ -314,10 +325,11 @@ fn search_and_warn(
     Some(())
 }
 
-/// Prints a warning for each path of `--only`, `--ignore` and the tolerances, and with
-/// `--no-key-is-null` of `--key`, at which no document of the two files has a part. If only one of
-/// the files can be read again, only the paths of `--only` are looked for, in that file. Prints
-/// nothing if neither file can be read again, or if the files have no documents.
+/// Prints a warning for each path of `--only`, `--ignore` and the tolerances at which no document
+/// of the files `left` and `right` has a part. With `--no-key-is-null`, does so for the paths of
+/// `--key` too. If only one file can be read again, looks only for the paths of `--only`, in that
+/// file. Prints nothing if neither file can be read again, or if the searched files have no
+/// documents.
 pub(crate) fn warn_of_unknown(
     rt: &HostRuntime,
     matches: &ArgMatches<'_>,

@@ -11,7 +11,7 @@ const ROOM: usize = 2000;
 /// The greatest length of a file name in an error, in bytes. A longer path can't be opened.
 const NAME_ROOM: usize = 4096;
 
-/// The number of fields that a record has, and the number that it should have.
+/// The number of fields of a record, and the number that it should have.
 #[derive(Clone, Copy)]
 pub struct Lengths {
     /// The line at which the record begins. The first line is 1.
@@ -20,7 +20,7 @@ pub struct Lengths {
     pub expected: u64,
     /// The number of fields of the record.
     pub found: u64,
-    /// The byte between fields.
+    /// The byte that separates fields.
     pub delimiter: u8,
 }
 
@@ -37,7 +37,8 @@ pub enum About {
     Other,
 }
 
-/// An error to print: a message, and the name of the file, if it is about one.
+/// An error to print: its message, the name of the file or stream that it is about, if any, and its
+/// cause.
 #[derive(Drop)]
 pub struct Error {
     // The braces keep the two constants out of the types that other modules see.
@@ -50,7 +51,7 @@ pub struct Error {
 pub type Result<T, E = Error> = std::result::Result<T, E>;
 
 impl Error {
-    /// Creates an error with a message.
+    /// Creates an error with the message `message` that is about no file.
     pub fn msg<M: Display + Drop>(message: M) -> Error {
         Error {
             name: None,
@@ -59,7 +60,7 @@ impl Error {
         }
     }
 
-    /// Sets the name of the file or stream that the error is about.
+    /// Returns the error with `name` as the file or stream that it is about.
     pub fn context(self, name: &str) -> Error {
         Error {
             name: Some(InlineText::of(name)),
@@ -67,12 +68,12 @@ impl Error {
         }
     }
 
-    /// Sets the cause of the error in the file.
+    /// Returns the error with `about` as its cause in the file.
     pub fn about(self, about: About) -> Error {
         Error { about, ..self }
     }
 
-    /// Appends a colon and a hint to the message.
+    /// Returns the error with a colon and `hint` appended to its message.
     pub fn hint<M: Display + Drop>(self, hint: M) -> Error {
         Error {
             message: self.message.and_str(": ", ROOM).and(hint, ROOM),
@@ -80,7 +81,8 @@ impl Error {
         }
     }
 
-    /// Returns the name of the file that the error is about, or `None` if it is about none.
+    /// Returns the name of the file or stream that the error is about, or `None` if it is about
+    /// none.
     pub fn file(&self) -> Option<&str> {
         match &self.name {
             Some(name) => Some(name.as_str()),
@@ -88,13 +90,13 @@ impl Error {
         }
     }
 
-    /// Returns the cause of the error in the file.
+    /// Returns the cause of the error in the file, or `About::Other` if none was set.
     pub fn part(&self) -> About {
         self.about
     }
 
-    /// Returns the message up to the first colon and blank. This part names the options that the
-    /// error is about.
+    /// Returns the part of the message before the first colon and blank, or all of it if it has
+    /// none. This part names the options that the error is about.
     pub fn subject(&self) -> &str {
         let message = self.message.as_str();
         match message.split_once(": ") {

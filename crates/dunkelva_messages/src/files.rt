@@ -17,15 +17,15 @@ enum Input {
 enum Start {
     /// Nothing was read.
     Nothing,
-    /// A `{`, and perhaps blanks, were read.
+    /// A `{`, and perhaps blanks after it, were read.
     Brace,
-    /// The input does not begin like a JSON document, or may do so.
+    /// The check is over, or was not asked for. No more bytes are checked.
     Over,
 }
 
 impl Start {
-    /// Returns what is known of an input after `bytes` of it were read. Returns `None` if it begins
-    /// with `{` and `"`, which may have blanks between them.
+    /// Returns the state after `bytes` were read in the state `self`. Returns `None` if the input
+    /// begins with `{` and `"`, which may have spaces and tabs between them.
     fn after(self, bytes: &[u8]) -> Option<Start> {
         let mut start = self;
         for byte in bytes {
@@ -40,7 +40,7 @@ impl Start {
     }
 }
 
-/// An open input.
+/// An open input, with the state `start` of the check of its first bytes.
 #[derive(Drop)]
 pub struct Source {
     input: Input,
@@ -48,8 +48,8 @@ pub struct Source {
 }
 
 impl Source {
-    /// Makes reads fail with `InvalidData` if the input begins like a JSON document. Nothing may
-    /// have been read yet.
+    /// Returns this source, but reads from it fail with `InvalidData` if the input begins like a
+    /// JSON document. Nothing may have been read yet.
     pub fn refusing_documents(self) -> Source {
         Source {
             start: Start::Nothing,
@@ -57,7 +57,8 @@ impl Source {
         }
     }
 
-    /// Returns the number of bytes of a regular file, or `None` for any other input.
+    /// Returns the size of the input in bytes if it is a regular file, or `None` for any other
+    /// input, or if the size can't be read.
     pub fn size(&self) -> Option<u64> {
         let Input::File(file) = &self.input else {
             return None;
@@ -96,8 +97,9 @@ impl Read for Source {
     }
 }
 
-/// Opens a file. `has_stdin` is true if the other input is standard input. If the file gets
-/// descriptor 0 then, standard input is closed, and the call fails.
+/// Opens the file `name`, or fails if it can't be opened. `has_stdin` is true if the other input is
+/// standard input. If the file gets descriptor 0 then, standard input is closed, and the call
+/// fails.
 fn open_file(rt: &HostRuntime, name: &str, has_stdin: bool) -> Result<fs::File> {
     match fs::open(rt, name) {
         Ok(file) => {
@@ -110,8 +112,9 @@ fn open_file(rt: &HostRuntime, name: &str, has_stdin: bool) -> Result<fs::File> 
     }
 }
 
-/// Opens an input. The name `-` is standard input. `has_stdin` is true if one of the inputs is
-/// standard input.
+/// Opens the input `name`: a file, or standard input if `name` is `-`. `has_stdin` is true if one
+/// of the inputs is standard input. Fails if the file can't be opened, or if it is opened as
+/// descriptor 0 while `has_stdin` is true, since standard input is closed then.
 pub fn open(rt: &HostRuntime, name: &str, has_stdin: bool) -> Result<Source> {
     let input = if name == "-" {
         Input::Standard(rt.reader())
@@ -124,8 +127,8 @@ pub fn open(rt: &HostRuntime, name: &str, has_stdin: bool) -> Result<Source> {
     })
 }
 
-/// Opens an input again that was read before. Returns `None` unless it is a regular file that can
-/// be opened.
+/// Opens again the input `name`, which was read before. Returns `None` unless it is a regular file
+/// that can be opened.
 pub fn open_again(rt: &HostRuntime, name: &str) -> Option<Source> {
     // Standard input can't be read again. A file named `-` is not opened either.
     if name == "-" {
@@ -138,8 +141,8 @@ pub fn open_again(rt: &HostRuntime, name: &str) -> Option<Source> {
     open(rt, name, false).ok()
 }
 
-/// Returns the number of bytes of two inputs together, or `None` if one is unknown or the sum is
-/// too large.
+/// Returns the sum of the sizes of two inputs in bytes, or `None` if a size is unknown or the sum
+/// is too large.
 pub fn total_of(left: &Source, right: &Source) -> Option<u64> {
     left.size()?.checked_add(right.size()?)
 }

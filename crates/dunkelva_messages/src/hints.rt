@@ -27,8 +27,8 @@ fn format_hint(head: &[u8]) -> Option<&'static str> {
     }
 }
 
-/// Returns a hint if the first bytes of a regular file show a known format that is not UTF-8 text.
-/// Otherwise, or if the file can't be read again, returns `None`.
+/// Returns a hint if the first bytes of the regular file `file` show a known format that is not
+/// UTF-8 text. Otherwise, or if the file can't be read again, returns `None`.
 fn what_is(rt: &HostRuntime, file: &str) -> Option<&'static str> {
     let mut reader = open_again(rt, file)?;
     let mut head = [0; 4];
@@ -36,8 +36,8 @@ fn what_is(rt: &HostRuntime, file: &str) -> Option<&'static str> {
     format_hint(head.get(..count)?)
 }
 
-/// Fails if the first bytes of a regular file show a known format that is not UTF-8 text, such as
-/// gzip.
+/// Fails if the first bytes of the regular file `file` show a known format that is not UTF-8 text,
+/// such as gzip. A file that can't be read again is not refused.
 pub fn refuse_not_text(rt: &HostRuntime, file: &str) -> Result<()> {
     match what_is(rt, file) {
         Some(what) => Err(trouble!("{what}").context(file)),
@@ -45,8 +45,8 @@ pub fn refuse_not_text(rt: &HostRuntime, file: &str) -> Result<()> {
     }
 }
 
-/// Returns whether the first byte of a regular file is `byte`. Returns false if the file can't be
-/// read again.
+/// Returns whether the first byte of the regular file `file` is `byte`. Returns false if the file
+/// can't be read again.
 pub fn begins_with(rt: &HostRuntime, file: &str, byte: u8) -> bool {
     let Some(mut reader) = open_again(rt, file) else {
         return false;
@@ -55,12 +55,14 @@ pub fn begins_with(rt: &HostRuntime, file: &str, byte: u8) -> bool {
     matches!(reader.read(&mut head), Ok(1)) && head == [byte]
 }
 
-/// Returns a hint if a regular file can't be read as CSV because it seems to have JSON documents.
+/// Returns a hint for the regular file `file`, which can't be read as CSV, if it seems to have JSON
+/// documents because its first byte is `{`. Otherwise returns `None`.
 fn records_hint(rt: &HostRuntime, file: &str) -> Option<&'static str> {
     begins_with(rt, file, b'{').then_some("it looks like JSON lines: give --input ndjson")
 }
 
-/// The bytes that commonly separate fields, each with the hint for it.
+/// The characters that commonly separate fields, each with a hint that asks whether it is the
+/// delimiter.
 const DELIMITERS: [(char, &str); 5] = [
     (';', "is ';' the --delimiter?"),
     ('\t', "is a tab the --delimiter? It is \\t"),
@@ -69,12 +71,14 @@ const DELIMITERS: [(char, &str); 5] = [
     ('\u{1}', "is the byte 1 the --delimiter? It is \\x01"),
 ];
 
-/// Returns the first line of a regular file, or `None` if it can't be read again or is not UTF-8.
+/// Returns the first line of the regular file `file`, or `None` if it can't be read again or is not
+/// UTF-8.
 fn first_line(rt: &HostRuntime, file: &str) -> Option<String> {
     String::from_utf8(line_bytes(rt, file, 1)?).ok()
 }
 
-/// Returns whether a line tells a spreadsheet the delimiter, as in `sep=;`.
+/// Returns whether `line` tells a spreadsheet the delimiter, as `sep=;` does. A byte order mark
+/// before it and a carriage return after it do not count.
 fn names_delimiter(line: &str) -> bool {
     let line = line.trim_start_matches('\u{feff}').trim_end_matches('\r');
     line.strip_prefix("sep=")
@@ -85,14 +89,15 @@ fn names_delimiter(line: &str) -> bool {
 const NO_RECORD: &str =
     "the first line tells a spreadsheet the delimiter: leave it out, as in <(tail -n +2 FILE)";
 
-/// Returns a hint if the first line of a regular file tells a spreadsheet the delimiter, and else
-/// `None`.
+/// Returns a hint if the first line of the regular file `file` tells a spreadsheet the delimiter.
+/// Otherwise, or if the line can't be read again, returns `None`.
 pub fn first_line_hint(rt: &HostRuntime, file: &str) -> Option<&'static str> {
     names_delimiter(&first_line(rt, file)?).then_some(NO_RECORD)
 }
 
-/// Returns a hint for a regular file whose first record has a single field: the question whether
-/// another byte is the delimiter. Returns `None` if no other byte is likely.
+/// Returns a hint for the regular file `file`. Its first record has to have a single field. The
+/// hint asks whether a character that is in the first line is the delimiter. Returns `None` if the
+/// line has none of the characters in `DELIMITERS`, or can't be read again.
 fn delimiter_hint(rt: &HostRuntime, file: &str) -> Option<&'static str> {
     let first = first_line(rt, file)?;
     for (delimiter, question) in DELIMITERS {
@@ -103,8 +108,8 @@ fn delimiter_hint(rt: &HostRuntime, file: &str) -> Option<&'static str> {
     None
 }
 
-/// Returns a hint for a record with too many fields: the question whether a field has the delimiter
-/// but no quotes.
+/// Returns a hint for a record with too many fields. The hint asks whether a field that has the
+/// byte `delimiter` in it lacks quotes.
 fn fields_hint(delimiter: u8) -> &'static str {
     match delimiter {
         b',' => "is a field with a comma not in quotes?",
@@ -114,8 +119,8 @@ fn fields_hint(delimiter: u8) -> &'static str {
     }
 }
 
-/// Returns a hint for a record with too many fields, from the line at which it begins in a regular
-/// file.
+/// Returns a hint for a record of the regular file `file` that has too many fields. The hint
+/// depends on the line at which the record begins, `lengths.line`, and on the numbers of fields.
 fn record_hint(rt: &HostRuntime, file: &str, lengths: Lengths) -> &'static str {
     let Some(bytes) = line_bytes(rt, file, lengths.line) else {
         return fields_hint(lengths.delimiter);
@@ -133,7 +138,8 @@ fn record_hint(rt: &HostRuntime, file: &str, lengths: Lengths) -> &'static str {
     fields_hint(lengths.delimiter)
 }
 
-/// Returns a hint for a file with records of different lengths, or `None` if none is known.
+/// Returns a hint for the regular file `file`, in which a record has another number of fields than
+/// the first one, or `None` if no hint is known. `lengths` has both numbers.
 fn lengths_hint(rt: &HostRuntime, file: &str, lengths: Lengths) -> Option<&'static str> {
     if let Some(hint) = records_hint(rt, file) {
         return Some(hint);
@@ -149,8 +155,8 @@ fn lengths_hint(rt: &HostRuntime, file: &str, lengths: Lengths) -> Option<&'stat
     (lengths.found > lengths.expected).then(|| record_hint(rt, file, lengths))
 }
 
-/// Returns a hint for an NDJSON file if `text`, its first line, is not a document. Returns `None` if
-/// no hint is known.
+/// Returns a hint for an NDJSON file whose first line, `text`, is not a document, or `None` if no
+/// hint is known.
 fn start_hint(text: &str) -> Option<&'static str> {
     let start = text.trim_matches(BLANKS);
     if text.starts_with('\u{feff}') {
@@ -168,8 +174,9 @@ fn start_hint(text: &str) -> Option<&'static str> {
 const NO_TEXT: &str =
     "the line is not UTF-8: convert the file, as in <(iconv -f LATIN1 -t UTF-8 FILE)";
 
-/// Returns a hint for a line of a regular file that is not a document, or `None` if none is known.
-/// The first line and the first column are 1.
+/// Returns a hint for the line with the number `line` of the regular file `file`, or `None` if no
+/// hint is known. The line is not a document, and the fault is at `column`. The first line and the
+/// first column are 1.
 fn line_hint(rt: &HostRuntime, file: &str, line: u64, column: u64) -> Option<&'static str> {
     let bytes = line_bytes(rt, file, line)?;
     let Ok(text) = str::from_utf8(&bytes) else {
@@ -186,7 +193,7 @@ fn line_hint(rt: &HostRuntime, file: &str, line: u64, column: u64) -> Option<&'s
     slip_at(rt.alloc(), text, column)
 }
 
-/// Returns a hint for an error in a file, or `None` if none is known.
+/// Returns a hint for `error`, or `None` if it is about no file, or no hint is known.
 fn hint_of(rt: &HostRuntime, error: &Error) -> Option<&'static str> {
     let file = error.file()?;
     match error.part() {
@@ -197,7 +204,7 @@ fn hint_of(rt: &HostRuntime, error: &Error) -> Option<&'static str> {
     }
 }
 
-/// Adds a hint to an error in a file, if one is known.
+/// Returns `error`, with a hint added to its message if one is known.
 fn with_hint(rt: &HostRuntime, error: Error) -> Error {
     match hint_of(rt, &error) {
         Some(hint) => error.hint(hint),
@@ -205,8 +212,8 @@ fn with_hint(rt: &HostRuntime, error: Error) -> Error {
     }
 }
 
-/// Returns what an input is that can't be compared: a folder, or a file of a known format that is
-/// not UTF-8 text. Otherwise returns `None`.
+/// Returns a description of the input `name` if it can't be compared because it is a folder, or a
+/// file of a known format that is not UTF-8 text. Otherwise returns `None`.
 fn what_input_is(rt: &HostRuntime, name: &str) -> Option<&'static str> {
     if name != "-" && fs::metadata(rt, name).ok()?.is_dir() {
         return Some("it is a folder, not a file");
@@ -215,8 +222,9 @@ fn what_input_is(rt: &HostRuntime, name: &str) -> Option<&'static str> {
 }
 
 /// Returns the error to print for `error`, which occurred while `files` were compared. If one of
-/// the files is a folder, or has a known format that is not UTF-8 text, that becomes the error,
-/// unless `error` is about another file. Otherwise a hint is added to `error`, if one is known.
+/// the files is a folder, or has a known format that is not UTF-8 text, returns an error that says
+/// so, unless `error` is about another file. Otherwise returns `error`, with a hint if one is
+/// known.
 pub fn explained(rt: &HostRuntime, error: Error, files: &[&str]) -> Error {
     for file in files {
         let is_of_other = error.file().is_some_and(|name| name != *file);

@@ -7,7 +7,8 @@ use crate::near::{are_near, differ_by_case};
 use json::{Scratch, Value};
 use std::alloc::Global;
 
-/// Returns the names of the first members of a document, and the number of the remaining ones.
+/// Returns a text that lists the names of the first `members` of a document, at most `MOST_NAMES`,
+/// and says how many more there are. Fails if an allocation fails.
 fn list_of(alloc: Global, members: &[(&str, Value<'_>)]) -> Result<String> {
     let mut list = String::new(alloc);
     for (i, (name, _)) in members.iter().take(MOST_NAMES).enumerate() {
@@ -31,8 +32,8 @@ fn distance(one: &str, other: &str) -> Option<u8> {
     }
 }
 
-/// Returns the index of the member whose name is most similar to `wanted`, or `None` if no name is
-/// similar. The first of several wins.
+/// Returns the index of the member with the name that is most similar to `wanted`, or `None` if no
+/// name is similar. If several names are equally similar, returns the first one.
 fn nearest(members: &[(&str, Value<'_>)], wanted: &str) -> Option<usize> {
     let mut least = u8::MAX;
     let mut found = None;
@@ -55,8 +56,8 @@ fn is_plain(name: &str) -> bool {
             .all(|c| c.is_ascii_alphanumeric() || c == '_' || c == '-')
 }
 
-/// Returns the member of an object whose name is most similar to `name`, or `None` if there is none
-/// or the value is not an object.
+/// Returns the member of the object `value` with the name that is most similar to `name`. Returns
+/// `None` if no name is similar, or if `value` is not an object.
 fn member_near<'v, 'a>(value: &'v Value<'a>, name: &str) -> Option<&'v (&'a str, Value<'a>)> {
     let Value::Object(members) = value else {
         return None;
@@ -64,8 +65,9 @@ fn member_near<'v, 'a>(value: &'v Value<'a>, name: &str) -> Option<&'v (&'a str,
     members.get(nearest(members, name)?)
 }
 
-/// Appends to `near` the path that leads into `value` along names similar to `names`. Returns
-/// `None` if there is no such path, or if a name needs quotes.
+/// Appends to `near` the path that leads into `value` along names similar to `names`, with a dot
+/// before each name unless `near` is empty. Returns `None` if there is no such path, a name needs
+/// quotes, or an allocation fails. Some names may have been appended then.
 fn push_near(names: &[&str], value: &Value<'_>, near: &mut String) -> Option<()> {
     let Some((name, rest)) = names.split_first() else {
         return Some(());
@@ -79,8 +81,8 @@ fn push_near(names: &[&str], value: &Value<'_>, near: &mut String) -> Option<()>
     push_near(rest, inner, near)
 }
 
-/// Returns the path of a part of a document that is similar to `path`, or `None` if there is none.
-/// Paths with quotes or indices give `None`.
+/// Returns the path of a part of `document` that is similar to `path`, or `None` if there is none
+/// or an allocation fails. A `path` that has quotes or indices gives `None`.
 fn path_near(alloc: Global, document: &Value<'_>, path: &str) -> Option<String> {
     let mut names = Vec::new(alloc);
     for name in path.strip_prefix('.').unwrap_or(path).split('.') {
@@ -100,8 +102,9 @@ fn is_foreign(path: &str) -> bool {
     path.starts_with('$') || path.contains('/')
 }
 
-/// Returns a path in another notation with dots between its names, as `order.id` for `$.order.id`
-/// and `/order/id`. Returns other paths unchanged. Returns `None` if an allocation fails.
+/// Returns `path` without `$`, `/` or `$/` at its beginning, and with dots in place of the other
+/// slashes, as `order.id` for `/order/id` and `.order.id` for `$.order.id`. Returns `None` if an
+/// allocation fails.
 fn in_dots(alloc: Global, path: &str) -> Option<String> {
     let path = path.strip_prefix('$').unwrap_or(path);
     let path = path.strip_prefix('/').unwrap_or(path);
@@ -113,9 +116,10 @@ fn in_dots(alloc: Global, path: &str) -> Option<String> {
     Some(dotted)
 }
 
-/// Returns a hint about a path that leads to no part of a document: the names of its members, and a
-/// question if a similar path exists. Otherwise the hint says how paths are written, if `path` is
-/// in another notation. Returns `None` if the document is not an object with members.
+/// Returns a hint about `path`, which leads to no part of `document`. The hint lists the names of
+/// the members of the document. If a similar path exists, the hint also asks whether it was meant.
+/// Otherwise, if `path` is in another notation, the hint also says how paths are written. Returns
+/// `None` if the document is not an object with members, or an allocation fails.
 fn hint_in(alloc: Global, document: &Value<'_>, path: &str) -> Option<String> {
     let Value::Object(members) = document else {
         return None;
@@ -136,8 +140,9 @@ fn hint_in(alloc: Global, document: &Value<'_>, path: &str) -> Option<String> {
     }
 }
 
-/// Returns a hint about a path that leads to no part of the document in a line of a regular file.
-/// The first line is 1. Returns `None` if the line can't be read again, or there is no hint.
+/// Returns the hint of `hint_in` about `path`, which leads to no part of the document in the line
+/// with the number `line` of the regular file `file`. The first line is 1. Returns `None` if the
+/// line can't be read again or is not JSON, or if there is no hint.
 fn hint_at(rt: &HostRuntime, file: &str, line: u64, path: &str) -> Option<String> {
     let bytes = line_bytes(rt, file, line)?;
     let text = str::from_utf8(&bytes).ok()?;
@@ -148,9 +153,10 @@ fn hint_at(rt: &HostRuntime, file: &str, line: u64, path: &str) -> Option<String
     }
 }
 
-/// Returns a hint about a path that leads to no part of the document in a line of a file. The first
-/// line is 1. If the line can't be read again, or the document has no members, the hint only says
-/// how paths are written, if `path` is in another notation. Returns `None` if there is no hint.
+/// Returns a hint about `path`, which leads to no part of the document in the line with the number
+/// `line` of `file`. The first line is 1. The hint lists the names of the members of the document.
+/// If the line can't be read again, or the document has no members, the hint only says how paths
+/// are written. In this case, returns `None` unless `path` is in another notation.
 pub fn members_hint(rt: &HostRuntime, file: &str, line: u64, path: &str) -> Option<String> {
     match hint_at(rt, file, line, path) {
         None if is_foreign(path) => String::from_str(rt.alloc(), NOTATION).ok(),

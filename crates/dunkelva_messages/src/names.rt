@@ -14,7 +14,8 @@ const MOST_BYTES: usize = 60;
 /// The greatest length of a single name in a message, in bytes. A longer name is cut.
 const MOST_OF_ONE: usize = 200;
 
-/// A name that is displayed in quotes. If the name was cut, two dots follow.
+/// A name that is displayed in quotes: `start` is the part of it that is kept. If `is_cut`, the
+/// rest is left out, and two dots follow.
 #[derive(Clone, Copy)]
 pub struct QuotedName<'a> {
     start: &'a str,
@@ -22,7 +23,8 @@ pub struct QuotedName<'a> {
 }
 
 impl<'a> QuotedName<'a> {
-    /// Cuts a name after at most `most` bytes. No character is split.
+    /// Keeps the first characters of `name` that have at most `most` bytes together. No character
+    /// is split.
     fn cut(name: &'a str, most: usize) -> QuotedName<'a> {
         let start = name.get(..name.floor_char_boundary(most)).unwrap_or("");
         QuotedName {
@@ -39,13 +41,14 @@ impl Display for QuotedName<'_> {
     }
 }
 
-/// Returns a name to be displayed in quotes. It is cut if it has more than 200 bytes.
+/// Returns `name` to be displayed in quotes. It is cut if it has more than 200 bytes.
 pub fn quoted(name: &str) -> QuotedName<'_> {
     QuotedName::cut(name, MOST_OF_ONE)
 }
 
-/// Appends a name in quotes to a list, after a comma unless it is the first one. A long name is
-/// cut, and a name that is not UTF-8 is described.
+/// Appends `name` in quotes to the list `text`, after a comma unless `is_first`. A name of more
+/// than 60 bytes is cut. For a name that is not UTF-8, appends `one that is not UTF-8`. Fails if an
+/// allocation fails.
 pub fn push_name(text: &mut String, alloc: Global, name: &[u8], is_first: bool) -> Result<()> {
     let comma = if is_first { "" } else { ", " };
     text.push_str(comma)?;
@@ -58,7 +61,8 @@ pub fn push_name(text: &mut String, alloc: Global, name: &[u8], is_first: bool) 
     Ok(())
 }
 
-/// Appends the number of names that a list leaves out, unless it is 0.
+/// Appends ` and N more` to the list `text`, where N is `more`, the number of names that the list
+/// leaves out. Appends nothing if `more` is 0. Fails if an allocation fails.
 pub fn push_more(text: &mut String, alloc: Global, more: usize) -> Result<()> {
     if more > 0 {
         text.push_str(&format!(in alloc; " and {more} more")?)?;

@@ -6,7 +6,7 @@ const MOST_OTHER: usize = 2;
 /// The least number of bytes that similar names have in common.
 const LEAST_COMMON: usize = 2;
 
-/// Returns a byte in lower case. An underscore becomes a hyphen.
+/// Returns `byte` in lower case, or a hyphen if it is an underscore.
 fn folded(byte: u8) -> u8 {
     match byte {
         b'_' => b'-',
@@ -14,8 +14,8 @@ fn folded(byte: u8) -> u8 {
     }
 }
 
-/// Returns whether two bytes exist, and are equal apart from their case. Hyphens and underscores
-/// are equal.
+/// Returns whether there are two bytes and they are equal apart from their case. A hyphen and an
+/// underscore are equal.
 fn are_alike(one: Option<&u8>, other: Option<&u8>) -> bool {
     match (one, other) {
         (Some(one), Some(other)) => folded(*one) == folded(*other),
@@ -23,7 +23,8 @@ fn are_alike(one: Option<&u8>, other: Option<&u8>) -> bool {
     }
 }
 
-/// Returns the number of equal bytes at the beginnings of two names. Case does not count.
+/// Returns the length of the longest common beginning of two names, in bytes. Case does not count,
+/// and a hyphen and an underscore are equal.
 fn common_start(one: &[u8], other: &[u8]) -> usize {
     let most = one.len().min(other.len());
     for i in 0..most {
@@ -34,14 +35,14 @@ fn common_start(one: &[u8], other: &[u8]) -> usize {
     most
 }
 
-/// Returns the byte at an index counted from the end, where 0 is the last byte, or `None` if there
-/// is none.
+/// Returns the byte of `name` at index `place`, counted back from the last byte, which has index 0.
+/// Returns `None` if there is no such byte.
 fn from_end(name: &[u8], place: usize) -> Option<&u8> {
     name.get(name.len().checked_sub(place.saturating_add(1))?)
 }
 
-/// Returns the number of equal bytes at the ends of two names, but at most `most`. Case does not
-/// count.
+/// Returns the length of the longest common end of two names, in bytes, but at most `most`. Case
+/// does not count, and a hyphen and an underscore are equal.
 fn common_end(one: &[u8], other: &[u8], most: usize) -> usize {
     for i in 0..most {
         if !are_alike(from_end(one, i), from_end(other, i)) {
@@ -51,13 +52,15 @@ fn common_end(one: &[u8], other: &[u8], most: usize) -> usize {
     most
 }
 
-/// Returns whether two names are equal apart from their case. Hyphens and underscores are equal.
+/// Returns whether two names are equal apart from their case. A hyphen and an underscore are equal.
+/// Equal names give true.
 pub fn differ_by_case(one: &[u8], other: &[u8]) -> bool {
     one.len() == other.len() && common_start(one, other) == one.len()
 }
 
 /// Returns whether two names are similar: they differ by at most two adjacent bytes, which are
-/// replaced, added or left out, and at least two other bytes are equal. Case does not count.
+/// replaced, added or left out, and have at least two other bytes, which are equal. Case does not
+/// count, and a hyphen and an underscore are equal.
 pub fn are_near(one: &[u8], other: &[u8]) -> bool {
     let start = common_start(one, other);
     let most = one.len().min(other.len()).saturating_sub(start);

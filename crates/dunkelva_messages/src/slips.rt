@@ -4,7 +4,7 @@ use crate::lines::BLANKS;
 use json::{Scratch, Value};
 use std::alloc::Global;
 
-/// Beginnings of values in other formats, each with the hint for it.
+/// Beginnings of values and comments of other formats, each with the hint for it.
 const STARTS: [(&str, &str); 11] = [
     ("NaN", "JSON has no NaN"),
     ("Infinity", "JSON has no Infinity"),
@@ -19,8 +19,7 @@ const STARTS: [(&str, &str); 11] = [
     ("/*", "JSON has no comments"),
 ];
 
-/// Returns the hint for a text that begins with a value of another format, or `None` if it does
-/// not.
+/// Returns the hint for `rest` if it begins with one of `STARTS`, and else `None`.
 fn start_hint(rest: &str) -> Option<&'static str> {
     for (start, hint) in STARTS {
         if rest.starts_with(start) {
@@ -35,8 +34,8 @@ fn begins_with_digit(text: &str) -> bool {
     text.starts_with(|c: char| c.is_ascii_digit())
 }
 
-/// Returns the hint for a text that begins with a number of another format, or `None` if it does
-/// not.
+/// Returns the hint for `rest` if it begins with a number that JSON does not allow: one that has a
+/// plus sign, or no digit before the point. Otherwise returns `None`.
 fn number_hint(rest: &str) -> Option<&'static str> {
     if let Some(number) = rest.strip_prefix('+') {
         let is_number = begins_with_digit(number) || number.starts_with('.');
@@ -49,7 +48,7 @@ fn number_hint(rest: &str) -> Option<&'static str> {
     None
 }
 
-/// Returns whether a text begins with a number that has a zero before its other digits, such as
+/// Returns whether `rest` begins with a number that has a zero before its other digits, such as
 /// `01`.
 fn has_leading_zero(rest: &str) -> bool {
     let number = rest.strip_prefix('-').unwrap_or(rest);
@@ -77,16 +76,17 @@ fn depth_of(before: &str) -> usize {
     depth
 }
 
-/// Returns whether `rest` begins with an array or object that nests deeper than documents may, and
-/// stands where a document may have a value. `before` is the beginning of the document.
+/// Returns whether `rest` begins with an array or object that is nested deeper than a document
+/// allows, and that stands where a document may have a value. `before` is the text of the document
+/// before `rest`.
 fn nests_too_deep(before: &str, rest: &str) -> bool {
     let is_value = before.ends_with(':') || before.ends_with('[') || before.ends_with(',');
     let is_nested = rest.starts_with('[') || rest.starts_with('{');
     is_value && is_nested && depth_of(before) == MOST_DEEP
 }
 
-/// Returns whether a text begins with a member name that has no quotes. `before` is the text before
-/// it in the line.
+/// Returns whether `rest` begins with the name of a member without quotes. `before` is the text
+/// before `rest` in the line, without blanks at its end.
 fn lacks_quotes(before: &str, rest: &str) -> bool {
     let behind = rest.trim_start_matches(|c: char| c.is_ascii_alphanumeric() || c == '_');
     let is_first = before.ends_with('{') || before.ends_with(',');
@@ -94,7 +94,7 @@ fn lacks_quotes(before: &str, rest: &str) -> bool {
     is_first && is_name && behind.len() < rest.len()
 }
 
-/// Returns whether a text begins with a string that has no closing quote.
+/// Returns whether `rest` begins with a string that has no closing quote.
 fn never_ends(rest: &str) -> bool {
     let Some(inside) = rest.strip_prefix('"') else {
         return false;
@@ -109,7 +109,7 @@ fn never_ends(rest: &str) -> bool {
     true
 }
 
-/// Returns whether a text is a JSON object.
+/// Returns whether `text` is a JSON object that ends with the last byte of `text`.
 fn is_document(alloc: Global, text: &str) -> bool {
     if !text.ends_with('}') {
         return false;
@@ -121,8 +121,9 @@ fn is_document(alloc: Global, text: &str) -> bool {
     }
 }
 
-/// Returns a hint about a mistake in a line that is not a document, or `None` if none is known. The
-/// fault is between `before` and `rest`.
+/// Returns a hint about the mistake in a line that is not a document, or `None` if no hint is
+/// known. `rest` is the text of the line from the fault on, and `before` the text before it,
+/// without blanks at its end.
 fn slip_between(alloc: Global, before: &str, rest: &str) -> Option<&'static str> {
     if lacks_quotes(before, rest) {
         return Some("a name stands in double quotes");
@@ -148,8 +149,8 @@ fn slip_between(alloc: Global, before: &str, rest: &str) -> Option<&'static str>
     number_hint(rest).or(start_hint(rest))
 }
 
-/// Returns a hint about a mistake at a column of a line that is not a document, or `None` if none
-/// is known. The first column is 1.
+/// Returns a hint about the mistake in `text`, a line that is not a document, or `None` if no hint
+/// is known. The fault is at `column`, which counts characters from 1.
 pub(crate) fn slip_at(alloc: Global, text: &str, column: u64) -> Option<&'static str> {
     let mut chars = text.chars();
     for _ in 1..column {

@@ -21,8 +21,8 @@ and --sorted are for CSV alone; --missing-is-null, --no-key-is-null and
 The status is 0 where the files are the same, 1 where they differ, and 2 where
 they can't be compared.";
 
-/// Sets the values that an argument takes, as `takes` says: none, one, a number, one of some words,
-/// or one or more.
+/// Returns `arg` changed to take the values that `takes` describes. A number may be negative, and
+/// an option that takes `Texts` or a `List` may be given several times.
 fn taking<'a>(arg: Arg<'a>, takes: Takes) -> Arg<'a> {
     match takes {
         Takes::Nothing => arg.action(ArgAction::SetTrue),
@@ -33,7 +33,8 @@ fn taking<'a>(arg: Arg<'a>, takes: Takes) -> Arg<'a> {
     }
 }
 
-/// Creates the argument of an option, with all its properties.
+/// Creates the argument by which the parser reads `option`. The parser does not check the fields
+/// `refuses` and `goes_with`.
 fn arg_of<'a>(alloc: Global, option: CliOption) -> Result<Arg<'a>, AllocError> {
     let mut arg = taking(Arg::new(alloc, option.id), option.takes)
         .long(option.id)
@@ -56,8 +57,8 @@ fn arg_of<'a>(alloc: Global, option: CliOption) -> Result<Arg<'a>, AllocError> {
     }
 }
 
-/// Creates the positional argument of an input, which is a file or standard input. It is required
-/// unless `--config` is given.
+/// Creates the positional argument `id` for an input, which is a file or standard input. `name` and
+/// `help` appear in the help text. The argument is required unless `--config` is given.
 fn input<'a>(
     alloc: Global,
     id: &'a str,
@@ -70,7 +71,7 @@ fn input<'a>(
         .required_unless_present("config")
 }
 
-/// Adds the positional argument of an input to a command.
+/// Adds the positional argument that `input` creates to `command`.
 fn with_input<'a>(
     alloc: Global,
     command: Command<'a>,
@@ -81,7 +82,7 @@ fn with_input<'a>(
     command.arg(input(alloc, id, name, help)?)
 }
 
-/// Adds an option to a command.
+/// Adds the argument of `option` to `command`.
 pub(crate) fn with_option<'a>(
     alloc: Global,
     command: Command<'a>,
@@ -90,7 +91,7 @@ pub(crate) fn with_option<'a>(
     command.arg(arg_of(alloc, option)?)
 }
 
-/// Adds options to a command, in order.
+/// Adds the arguments of `options` to `command`, in order.
 fn with_options<'a>(
     alloc: Global,
     command: Command<'a>,
@@ -115,12 +116,12 @@ fn diff<'a>(alloc: Global) -> Result<Command<'a>, AllocError> {
     with_options(alloc, command, options())
 }
 
-/// Adds the command `dunkelva schema`, which prints the schema of a file.
+/// Adds the subcommand `dunkelva schema`, which prints the schema of a file, to `command`.
 fn with_schema<'a>(alloc: Global, command: Command<'a>) -> Result<Command<'a>, AllocError> {
     command.subcommand(schema_command(alloc)?)
 }
 
-/// Creates the parser of the program's command line.
+/// Creates the parser of the program's command line, with the subcommands `diff` and `schema`.
 pub fn command<'a>(alloc: Global) -> Result<Command<'a>, AllocError> {
     let diff = diff(alloc)?;
     let command = Command::new(alloc, "dunkelva")

@@ -2,6 +2,8 @@
 //!
 //! The file is in TOML. It sets options by their names, and the two input files as `left` and
 //! `right`. Options on the command line override those in the file.
+//!
+//! The functions that take `alloc` or `rt` also fail if an allocation fails.
 
 use crate::given::{is_given, split_word};
 use crate::options::{CliOption, Takes, options};
@@ -20,18 +22,20 @@ use toml::{Table, Value};
 pub struct Config {
     /// The options in the file, as command-line arguments such as `--key=id`.
     pub words: Vec<String>,
-    /// The name of the first input file, if the file sets it.
+    /// The name of the first input file, if the config file sets it.
     pub left: Option<String>,
-    /// The name of the second input file, if the file sets it.
+    /// The name of the second input file, if the config file sets it.
     pub right: Option<String>,
 }
 
-/// Returns the error for a value of the wrong type. `takes` says what the option `name` takes.
+/// Returns the error for a setting `name` if `value` has the wrong type. `takes` describes the
+/// values that the setting takes, such as `a text`.
 fn misfit(name: &str, takes: &str, value: &Value) -> Error {
     trouble!("{name} takes {takes}, not this {}", value.type_str())
 }
 
-/// Returns the text of a string value. Fails if the value is not a string.
+/// Returns the text of `value`, to which the config file sets `name`. Fails if `value` is not a
+/// string.
 fn text_of<'a>(name: &str, value: &'a Value) -> Result<&'a str> {
     match value.as_str() {
         Some(text) => Ok(text),
@@ -39,8 +43,8 @@ fn text_of<'a>(name: &str, value: &'a Value) -> Result<&'a str> {
     }
 }
 
-/// Appends the argument `--name` if the value is true, and nothing if it is false. Fails if the
-/// value is not a truth value.
+/// Appends the argument `--name` to `words` if `value` is true, and nothing if it is false. Fails
+/// if `value` is not a truth value.
 fn push_switch(words: &mut Vec<String>, alloc: Global, name: &str, value: &Value) -> Result<()> {
     match value.as_bool() {
         Some(true) => words.push(format!(in alloc; "--{name}")?)?,
@@ -50,7 +54,7 @@ fn push_switch(words: &mut Vec<String>, alloc: Global, name: &str, value: &Value
     Ok(())
 }
 
-/// Appends the argument `--name=value`.
+/// Appends the argument `--name=value` to `words`.
 fn push_word<V: Display + Drop>(
     words: &mut Vec<String>,
     alloc: Global,
@@ -61,12 +65,13 @@ fn push_word<V: Display + Drop>(
     Ok(())
 }
 
-/// Appends the argument of an option that takes a text. Fails if the value is not a string.
+/// Appends the argument `--name=value` of an option that takes a text. Fails if `value` is not a
+/// string.
 fn push_text(words: &mut Vec<String>, alloc: Global, name: &str, value: &Value) -> Result<()> {
     push_word(words, alloc, name, text_of(name, value)?)
 }
 
-/// The values that an option accepts, displayed as `text or json`.
+/// The words that an option accepts as its value, displayed as `text or json`.
 #[derive(Clone, Copy)]
 struct Choices<'a>(&'a [&'a str]);
 
@@ -80,8 +85,9 @@ impl Display for Choices<'_> {
     }
 }
 
-/// Appends the argument of an option whose value is one of `choices`. Fails if the value is not one
-/// of these strings.
+/// Appends the argument `--name=value` of an option that takes one of the words `choices`. Fails if
+/// `value` is not one of them. The error has a hint if `value` is a report format for which there
+/// is another option than `--format`.
 fn push_choice(
     words: &mut Vec<String>,
     alloc: Global,
@@ -100,7 +106,8 @@ fn push_choice(
     }
 }
 
-/// Appends the argument of an option that takes a number. Fails if the value is not an integer.
+/// Appends the argument `--name=value` of an option that takes a number. Fails if `value` is not an
+/// integer.
 fn push_number(words: &mut Vec<String>, alloc: Global, name: &str, value: &Value) -> Result<()> {
     match value.as_integer() {
         Some(number) => push_word(words, alloc, name, number),
@@ -108,8 +115,8 @@ fn push_number(words: &mut Vec<String>, alloc: Global, name: &str, value: &Value
     }
 }
 
-/// Returns the quotes to put around a name in a comma-separated list: `"` if the name has a comma,
-/// and else nothing. A name that has quotes itself gets none.
+/// Returns the quotes to put around `name` in a comma-separated list: `"` if it has a comma and no
+/// quotes, and else nothing.
 fn quotes_for(name: &str) -> &'static str {
     if name.contains(',') && !name.contains('"') {
         "\""
@@ -118,8 +125,9 @@ fn quotes_for(name: &str) -> &'static str {
     }
 }
 
-/// Appends an argument for each text of an array. A string is treated as an array of this one text.
-/// Fails if the value is neither an array nor a string, or if an item is not a string.
+/// Appends an argument `--name=text` for each text of the array `value`. A string is treated as an
+/// array of this one text. Fails if `value` is neither an array nor a string, or if an item is not
+/// a string.
 fn push_texts(words: &mut Vec<String>, alloc: Global, name: &str, value: &Value) -> Result<()> {
     let Some(items) = value.as_array() else {
         return push_text(words, alloc, name, value);
@@ -130,7 +138,8 @@ fn push_texts(words: &mut Vec<String>, alloc: Global, name: &str, value: &Value)
     Ok(())
 }
 
-/// Returns the text of a string value in a list of names. Fails if the value is not a string.
+/// Returns the text of `value`, a value or item of the option `name`, which takes a list of names.
+/// Fails if `value` is not a string; the error says that the option takes names.
 fn name_in<'a>(name: &str, value: &'a Value) -> Result<&'a str> {
     match value.as_str() {
         Some(text) => Ok(text),
@@ -138,9 +147,10 @@ fn name_in<'a>(name: &str, value: &'a Value) -> Result<&'a str> {
     }
 }
 
-/// Appends an argument for each name of an array. A string is appended unchanged: it may be a
-/// comma-separated list, as on the command line. Fails if the value is neither an array nor a
-/// string, or if an item is not a string.
+/// Appends an argument `--name=item` for each item of the array `value`, with quotes around an item
+/// that has a comma. If `value` is a string, appends it unchanged in one argument: it may be a
+/// comma-separated list, as on the command line. Fails if `value` is neither an array nor a string,
+/// or if an item is not a string.
 fn push_names(words: &mut Vec<String>, alloc: Global, name: &str, value: &Value) -> Result<()> {
     let Some(items) = value.as_array() else {
         return push_word(words, alloc, name, name_in(name, value)?);
@@ -153,8 +163,9 @@ fn push_names(words: &mut Vec<String>, alloc: Global, name: &str, value: &Value)
     Ok(())
 }
 
-/// Appends the argument `--name=path=bound`. The bound is a string or an integer. Fails for a
-/// float, since reading a float may have lost digits, and for other types.
+/// Appends the argument `--name=path=bound`, with quotes around a path that has a comma. Fails if
+/// `bound` is neither a string nor an integer. A float is refused since reading it may have lost
+/// digits.
 fn push_bound(
     words: &mut Vec<String>,
     alloc: Global,
@@ -176,8 +187,10 @@ fn push_bound(
     }
 }
 
-/// Appends an argument for each path and bound of a table such as `{ price = "0.01" }`. An array of
-/// texts such as `"price=0.01"`, or one such text, is appended as `push_texts` does.
+/// Appends an argument `--name=path=bound` for each path and bound of the table `value`, such as `{
+/// price = "0.01" }`. If `value` is not a table, it has to be an array of texts such as
+/// `"price=0.01"`, or one such text, and is appended by `push_texts`. Fails for other values, and
+/// if a bound is neither a string nor an integer.
 fn push_bounds(words: &mut Vec<String>, alloc: Global, name: &str, value: &Value) -> Result<()> {
     let Some(bounds) = value.as_table() else {
         return push_texts(words, alloc, name, value);
@@ -188,7 +201,8 @@ fn push_bounds(words: &mut Vec<String>, alloc: Global, name: &str, value: &Value
     Ok(())
 }
 
-/// Appends the arguments that give an option this value. Fails if the option takes no such value.
+/// Appends the arguments that give `option` the value `value` to `words`. Fails if the option does
+/// not take this value.
 fn push_option(
     words: &mut Vec<String>,
     alloc: Global,
@@ -219,8 +233,8 @@ fn is_known(name: &str) -> bool {
     name == "left" || name == "right"
 }
 
-/// Returns the name of an option that is similar to `name`, or `None` if there is none. A name that
-/// differs only by case, or by underscores for hyphens, is preferred.
+/// Returns the name of an option that is similar to `name`, or `None` if there is none. Prefers an
+/// option that differs from `name` only by case, or by underscores for hyphens.
 pub(crate) fn option_near(name: &str) -> Option<&'static str> {
     let mut near = None;
     for option in options() {
@@ -235,7 +249,8 @@ pub(crate) fn option_near(name: &str) -> Option<&'static str> {
     near
 }
 
-/// Fails if the table has a setting whose name is unknown. The error suggests a similar option.
+/// Fails if `table`, the content of a config file, sets a name that is unknown. The error suggests
+/// a similar option, if there is one.
 fn refuse_unknown(table: &Table) -> Result<()> {
     for (name, _) in table {
         if !is_known(name) {
@@ -267,7 +282,7 @@ fn is_replaced(words: &[String], option: &CliOption) -> bool {
 }
 
 /// Returns the path that the command line `words` gives with `--config`, or `None` if it gives
-/// none.
+/// none. Arguments after `--` do not count.
 fn file_given(words: &[String]) -> Option<&str> {
     for i in 0..words.len() {
         match split_word(&words[i]) {
@@ -280,7 +295,7 @@ fn file_given(words: &[String]) -> Option<&str> {
     None
 }
 
-/// Returns a copy of the string that a table has at `name`, or `None` if it has no such member.
+/// Returns a copy of the string to which `table` sets `name`, or `None` if it does not set `name`.
 /// Fails if the value is not a string.
 fn member_text(alloc: Global, table: &Table, name: &str) -> Result<Option<String>> {
     match table.get(name) {
@@ -289,7 +304,8 @@ fn member_text(alloc: Global, table: &Table, name: &str) -> Result<Option<String
     }
 }
 
-/// Fails if one of the arguments `words`, which are those of a config file, excludes another one.
+/// Fails if `words`, the arguments made from a config file, give an option together with another
+/// one that it excludes.
 fn refuse_excluded(words: &[String]) -> Result<()> {
     for option in options() {
         for other in option.excludes {
@@ -301,8 +317,9 @@ fn refuse_excluded(words: &[String]) -> Result<()> {
     Ok(())
 }
 
-/// Returns the settings in a table. Options that the command line `given` overrides are left out.
-/// Fails if a name is unknown, a value has a wrong type, or two options exclude each other.
+/// Returns the settings in `table`, the content of a config file. Options that the command line
+/// `given` overrides are left out. Fails if a name is unknown, a value has a wrong type, or two of
+/// the remaining options exclude each other.
 fn config_of(alloc: Global, table: &Table, given: &[String]) -> Result<Config> {
     refuse_unknown(table)?;
     let mut words = Vec::new(alloc);
@@ -319,7 +336,8 @@ fn config_of(alloc: Global, table: &Table, given: &[String]) -> Result<Config> {
     Ok(Config { words, left, right })
 }
 
-/// Returns the number of the line that has the byte at index `place`. The first line is 1.
+/// Returns the number of the line of `text` that has the byte at index `place`. The first line is
+/// 1.
 fn line_at(text: &str, place: usize) -> usize {
     let before = text.as_bytes().iter().take(place);
     before
@@ -351,7 +369,10 @@ fn is_other_format(line: &str) -> bool {
     is_begun || line.contains(':') && !line.contains('=')
 }
 
-/// Returns the error for a config file that is not TOML, with the number of the line.
+/// Returns the error for a config file whose content `text` is not TOML. `error` is the error of
+/// the TOML parser. The message begins with the number of the line, and advises what to write if
+/// the line lacks quotes or seems to be of another format. If `error` has no place in `text`, the
+/// message is `out of memory`.
 fn no_table(text: &str, error: &toml::de::Error) -> Error {
     let Some(span) = error.span() else {
         return trouble!("out of memory");
@@ -390,7 +411,7 @@ fn takes_file(words: &[String]) -> bool {
 
 /// Reads the config file that the command line `words` names with `--config`. Options that the
 /// command line overrides are left out. Returns empty settings if no file is named. Fails if the
-/// command does not accept `--config`, or if the file can't be used.
+/// command does not accept `--config`, or as `read_config` does.
 pub fn config_for(rt: &HostRuntime, words: &[String]) -> Result<Config> {
     let Some(path) = file_given(words) else {
         return Ok(Config {
@@ -408,7 +429,8 @@ pub fn config_for(rt: &HostRuntime, words: &[String]) -> Result<Config> {
     }
 }
 
-/// Returns whether the beginning of an error's message names an option that the config file sets.
+/// Returns whether `error` is about an option that the config file sets: whether the beginning of
+/// its message, up to the first colon and blank, has a word such as `--key` that names one.
 fn is_of_file(error: &Error, config: &Config) -> bool {
     for word in error.subject().split(' ') {
         if let Some(option) = word.strip_prefix("--") {
@@ -420,8 +442,9 @@ fn is_of_file(error: &Error, config: &Config) -> bool {
     false
 }
 
-/// Adds the name of the config file to an error if the error is about an option that the file sets.
-/// Returns other errors unchanged. `words` is the command line.
+/// Adds the name of the config file to `error` if it names no file yet, and is about an option that
+/// the config file sets. Returns other errors unchanged. `words` is the command line, and `config`
+/// has the settings of the config file.
 pub fn with_file(error: Error, config: &Config, words: &[String]) -> Error {
     match file_given(words) {
         Some(path) if error.file().is_none() && is_of_file(&error, config) => error.context(path),
@@ -429,8 +452,8 @@ pub fn with_file(error: Error, config: &Config, words: &[String]) -> Error {
     }
 }
 
-/// Returns the arguments of a command line, with the arguments `set` inserted after the command,
-/// the argument at index 1.
+/// Returns the arguments of the command line `words`, with the arguments `set` inserted after the
+/// command, which has index 1. If there is no command, `set` is left out.
 pub fn joined<'a>(
     alloc: Global,
     words: &'a [String],
@@ -448,10 +471,11 @@ pub fn joined<'a>(
     Ok(all)
 }
 
-/// Returns the names of the two input files. `first` and `second` are the names on the command
-/// line. Two names there override the names in the config file. If there is one name, the file has
-/// to set exactly one, and this one keeps its side. If there is none, the file has to set both.
-/// Fails in all other cases.
+/// Returns the names of the left and the right input file. `first` and `second` are the names on
+/// the command line. Two names there override the names in the config file. If the command line has
+/// one name, the config file has to set exactly one of `left` and `right`, and the name on the
+/// command line is the other. If it has none, the config file has to set both. Fails in all other
+/// cases.
 pub fn named_files<'a>(
     first: Option<&'a str>,
     second: Option<&'a str>,

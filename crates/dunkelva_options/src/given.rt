@@ -12,10 +12,10 @@ fn named_by(letter: char) -> Option<&'static str> {
     None
 }
 
-/// Returns the name of the option in a command-line argument, without its hyphens, and the value
-/// after an equals sign, if there is one. A value written directly after a short option, as in
-/// `-kid`, is ignored. Returns `None` if the argument is not an option. The argument `--` gives an
-/// empty name.
+/// Splits the command-line argument `word` into the name of its option, without hyphens, and the
+/// value after an equals sign, if there is one. For a short option, returns its long name and no
+/// value: a value written directly after it, as in `-kid`, is ignored. Returns `None` if `word` is
+/// not an option. The argument `--` gives an empty name.
 pub(crate) fn split_word(word: &str) -> Option<(&str, Option<&str>)> {
     let Some(option) = word.strip_prefix("--") else {
         let letter = word.strip_prefix('-')?.chars().next()?;
@@ -37,7 +37,7 @@ fn told_by(word: &str, id: &str) -> Option<bool> {
     }
 }
 
-/// Returns whether the command line `words` gives the option `id`.
+/// Returns whether the arguments `words` give the option `id`. Arguments after `--` do not count.
 pub(crate) fn is_given(words: &[String], id: &str) -> bool {
     for word in words {
         if let Some(is_given) = told_by(word, id) {
@@ -47,7 +47,8 @@ pub(crate) fn is_given(words: &[String], id: &str) -> bool {
     false
 }
 
-/// Returns whether the borrowed command line `words` gives the option `id`.
+/// Returns whether the borrowed arguments `words` give the option `id`. Arguments after `--` do not
+/// count.
 pub(crate) fn is_among(words: &[&str], id: &str) -> bool {
     for word in words {
         if let Some(is_given) = told_by(word, id) {

@@ -17,7 +17,7 @@ enum Quoting {
 }
 
 impl Quoting {
-    /// Returns the state after `byte`, which is read in this state.
+    /// Returns the state after `byte` if `self` is the state before it.
     fn after(self, byte: u8) -> Quoting
         ensures { result ≡ after self byte }
     {
@@ -30,7 +30,7 @@ impl Quoting {
         }
     }
 
-    /// Returns whether `byte`, read in this state, is a comma that ends a path.
+    /// Returns whether `byte` is a comma that ends a path. `self` is the state before `byte`.
     fn is_end(self, byte: u8) -> bool
         ensures { result ≡ is_end self byte }
     {
@@ -38,8 +38,8 @@ impl Quoting {
     }
 }
 
-/// Appends the texts between the commas of a list to `parts`. Commas within quotes do not count. An
-/// empty list has one text, which is empty.
+/// Splits `list` at its commas outside of quotes, and appends all parts, also empty ones, to
+/// `parts`. An empty list has one part, which is empty.
 fn push_parts<'a>(parts: &mut Vec<&'a str>, list: &'a str) -> Result<(), AllocError>
     ensures { IfOk result
         (λ _. map (λ text. text.now) parts.new.items ≡ map (λ text. text.now) parts.old.items
@@ -59,7 +59,8 @@ fn push_parts<'a>(parts: &mut Vec<&'a str>, list: &'a str) -> Result<(), AllocEr
     Ok(())
 }
 
-/// Splits each list at its commas, except at commas within quotes, and returns all texts in order.
+/// Splits each of `lists` at its commas outside of quotes, and returns the parts of all lists in
+/// order.
 pub fn split_lists<'a>(alloc: Global, lists: &[&'a str]) -> Result<Vec<&'a str>, AllocError>
     ensures { IfOk result
         (λ parts. map (λ text. text.now) parts.items

@@ -45,8 +45,8 @@ pub struct CliOption {
     pub needs: Option<&'static str>,
     /// The options that can't be given together with this one.
     pub excludes: &'static [&'static str],
-    /// The options that can't be given together with this one, and are ignored if a config file
-    /// sets them.
+    /// The options that the command line must not have beside this one. If a config file sets one
+    /// of them, it is ignored when the command line has this one.
     pub refuses: &'static [&'static str],
     /// The kind of input files for which the option can be given.
     pub goes_with: GoesWith,
@@ -54,7 +54,8 @@ pub struct CliOption {
     pub help: &'static str,
 }
 
-/// A switch: an option without a value. Other options are written as changes of this one.
+/// The default values of the fields of an option: a switch, which takes no value. `OPTIONS` states
+/// only the fields that differ.
 const SWITCH: CliOption = CliOption {
     id: "",
     short: None,
@@ -290,8 +291,8 @@ pub fn options() -> &'static [CliOption] {
     &OPTIONS
 }
 
-/// Returns the names of the options that the option `id` refuses, or an empty slice if there is no
-/// such option.
+/// Returns the names of the options that the option `id` refuses (its field `refuses`), or an empty
+/// slice if there is no such option.
 pub fn refused_by(id: &str) -> &'static [&'static str] {
     for option in options() {
         if option.id == id {

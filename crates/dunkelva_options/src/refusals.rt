@@ -6,8 +6,8 @@ use clap::error::ErrorKind;
 use std::alloc::{AllocError, Global};
 use std::fs;
 
-/// Returns advice for a report format that `--format` does not accept but that another option
-/// gives, or `None` if there is no such option.
+/// Returns advice for `form`, a value that `--format` does not accept: the option that writes this
+/// format. Returns `None` if no option does.
 pub(crate) fn form_advice(form: &str) -> Option<&'static str> {
     match form {
         "markdown" | "md" => Some("for Markdown give --markdown"),
@@ -16,7 +16,8 @@ pub(crate) fn form_advice(form: &str) -> Option<&'static str> {
     }
 }
 
-/// Returns advice for the value of `--format` in the arguments `words`, or `None` if there is none.
+/// Returns advice for the value that the arguments `words` give to `--format`, or `None` if
+/// `form_advice` has none for it.
 fn format_advice(words: &[&str]) -> Option<&'static str> {
     let mut is_behind = false;
     for word in words {
@@ -33,8 +34,9 @@ fn format_advice(words: &[&str]) -> Option<&'static str> {
     None
 }
 
-/// Returns advice if the first argument seems to be the name of a file instead of a command, and
-/// else `None`: if there is such a file, or if another argument follows that is no option.
+/// Returns advice if the argument at index 1 of `words`, which should be a command, seems to be the
+/// name of a file: if there is such a file, or if the next argument is no option. Otherwise returns
+/// `None`.
 fn command_advice(rt: &HostRuntime, words: &[&str]) -> Option<&'static str> {
     let first = words.get(1)?;
     let is_followed = words.get(2).is_some_and(|word| !word.starts_with('-'));
@@ -44,7 +46,8 @@ fn command_advice(rt: &HostRuntime, words: &[&str]) -> Option<&'static str> {
     Some("to compare two files: dunkelva diff LEFT RIGHT")
 }
 
-/// Advice on what to give in place of an option of another program.
+/// Advice for options such as `--quiet`. This and the following constants, up to `ALIGNED`, say
+/// what to give in place of options of other programs.
 const STATUS: &str = "for the status alone send what is printed to /dev/null";
 
 const OUTPUT: &str = "the report is printed: write > FILE";
@@ -100,8 +103,8 @@ const OTHERS: [(&str, &str); 15] = [
     ("-o", OUTPUT),
 ];
 
-/// Options of other programs that `dunkelva schema` has no option for, each with advice on what to
-/// give `dunkelva diff` instead.
+/// Options of other programs, each with advice on what to give `dunkelva diff` instead. For
+/// `dunkelva schema` this advice is not given.
 const OTHERS_OF_DIFF: [(&str, &str); 59] = [
     ("--id", KEY),
     ("--on", KEY),
@@ -170,7 +173,8 @@ const OTHERS_OF_DIFF: [(&str, &str); 59] = [
     ),
 ];
 
-/// Returns an argument without the equals sign and the value after it, if it has them.
+/// Returns the part of the argument `word` before its first equals sign, or all of `word` if it has
+/// none.
 fn option_in(word: &str) -> &str {
     match word.split_once('=') {
         Some((option, _)) => option,
@@ -178,7 +182,9 @@ fn option_in(word: &str) -> &str {
     }
 }
 
-/// Returns the advice for the first argument that `others` has, or `None` if there is none.
+/// Returns the advice for the first of the arguments `words` that is an option in `others`, or
+/// `None` if there is none. A value after an equals sign does not count. Each pair in `others` is
+/// an option and its advice.
 fn advice_in(words: &[&str], others: &[(&str, &'static str)]) -> Option<&'static str> {
     for word in words {
         for (option, advice) in others {
@@ -190,8 +196,9 @@ fn advice_in(words: &[&str], others: &[(&str, &'static str)]) -> Option<&'static
     None
 }
 
-/// Returns the name of an option that an argument has after a single hyphen, as `key` in `-key`, or
-/// `None` if there is none.
+/// Returns the name of the option that `word` has after a single hyphen, as `key` in `-key` or
+/// `-key=id`. Returns `None` if `word` has no hyphen at its beginning, or if there is no such
+/// option.
 fn after_one_hyphen(word: &str) -> Option<&'static str> {
     let name = option_in(word.strip_prefix('-')?);
     for option in options() {
@@ -202,8 +209,8 @@ fn after_one_hyphen(word: &str) -> Option<&'static str> {
     None
 }
 
-/// Returns advice for the first argument that is an option with a single hyphen, or `None` if there
-/// is none or an allocation fails.
+/// Returns the advice to write two hyphens, for the first of the arguments `words` that is the name
+/// of an option after a single hyphen. Returns `None` if there is none or an allocation fails.
 fn hyphen_advice(alloc: Global, words: &[&str]) -> Option<String> {
     for word in words {
         if let Some(id) = after_one_hyphen(*word) {
@@ -213,8 +220,9 @@ fn hyphen_advice(alloc: Global, words: &[&str]) -> Option<String> {
     None
 }
 
-/// Returns advice if two names follow `--key` as two arguments, and the second one is not the name
-/// of a file. Otherwise, or if an allocation fails, returns `None`.
+/// Returns the advice to separate columns by commas if two arguments follow the first `--key` or
+/// `-k` in `words`, neither begins with a hyphen, and the second is not the name of a file.
+/// Otherwise, or if an allocation fails, returns `None`.
 fn list_advice(rt: &HostRuntime, words: &[&str]) -> Option<String> {
     let at = words
         .iter()
@@ -227,8 +235,9 @@ fn list_advice(rt: &HostRuntime, words: &[&str]) -> Option<String> {
     format!(in rt.alloc(); "separate columns by commas: --key {first},{second}").ok()
 }
 
-/// Returns advice for the first argument that is an option of other programs, or has a single
-/// hyphen for two. Returns `None` if there is none, or an allocation fails.
+/// Returns advice for an argument in `words` that is an option of another program, or else for one
+/// that has a single hyphen in place of two. For `dunkelva schema`, only the options in `OTHERS`
+/// have advice. Returns `None` if there is no advice, or an allocation fails.
 fn other_advice(alloc: Global, words: &[&str]) -> Option<String> {
     if let Some(advice) = advice_in(words, &OTHERS) {
         return String::from_str(alloc, advice).ok();
@@ -242,8 +251,9 @@ fn other_advice(alloc: Global, words: &[&str]) -> Option<String> {
     }
 }
 
-/// Returns advice if the arguments give an option without another one that it needs: the text `--a
-/// needs --b`. Returns `None` if no option is missing, or if an allocation fails.
+/// Returns the advice `--a needs --b` for the first option `a` that the arguments `words` give
+/// without the option `b`, which it needs. Returns `None` if no option is missing, or if an
+/// allocation fails.
 fn needs_advice(alloc: Global, words: &[&str]) -> Option<String> {
     for option in options() {
         if let Some(other) = option.needs {
@@ -255,8 +265,8 @@ fn needs_advice(alloc: Global, words: &[&str]) -> Option<String> {
     None
 }
 
-/// Returns advice for arguments that the parser refused with an error of this kind, or `None` if
-/// there is none.
+/// Returns advice for the command line `words`, which the parser refused with an error of kind
+/// `kind`. Returns `None` if there is no advice, or an allocation fails.
 pub fn advice_for(rt: &HostRuntime, words: &[&str], kind: ErrorKind) -> Option<String> {
     let advice = match kind {
         ErrorKind::InvalidSubcommand => command_advice(rt, words)?,
@@ -270,8 +280,8 @@ pub fn advice_for(rt: &HostRuntime, words: &[&str], kind: ErrorKind) -> Option<S
     String::from_str(rt.alloc(), advice).ok()
 }
 
-/// Returns the text of a parser's error up to its first empty line. The caller prints advice in
-/// place of the rest, since the parser's own tip could mislead.
+/// Returns the lines of `text`, a parser's error, before its first empty line. The caller prints
+/// advice in place of the rest, since the parser's own tip could mislead.
 pub fn reason_in(alloc: Global, text: &str) -> Result<String, AllocError> {
     let mut reason = String::new(alloc);
     for line in text.lines() {
@@ -284,8 +294,8 @@ pub fn reason_in(alloc: Global, text: &str) -> Result<String, AllocError> {
     Ok(reason)
 }
 
-/// Returns the text of a parser's error without the tip to pass an option as a value. An empty line
-/// after an empty line is left out too.
+/// Returns `text`, a parser's error, without the tip to pass an option as a value. Of several empty
+/// lines in a row, only the first is kept, also if the tip was between them.
 pub fn without_tip(alloc: Global, text: &str) -> Result<String, AllocError> {
     let mut kept = String::new(alloc);
     let mut is_behind_empty = false;

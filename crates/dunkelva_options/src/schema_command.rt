@@ -29,8 +29,8 @@ const SHARED: [&str; 6] = [
     "format",
 ];
 
-/// Returns an option as `dunkelva schema` has it. The help of some options is only for `dunkelva
-/// diff`.
+/// Returns `option` with the help text that it has in `dunkelva schema`. The other fields are
+/// unchanged.
 fn of_schema(option: CliOption) -> CliOption {
     let help = match option.id {
         "input" => "The format of the file; without it its name tells it",
@@ -41,7 +41,7 @@ fn of_schema(option: CliOption) -> CliOption {
     CliOption { help, ..option }
 }
 
-/// Creates the positional argument that names the file.
+/// Creates the required positional argument that names the file to read.
 fn file_arg<'a>(alloc: Global) -> Arg<'a> {
     Arg::new(alloc, "file")
         .value_name("FILE")

@@ -13,17 +13,18 @@ use json_paths::parse::parse_path;
 use json_paths::path::Path;
 use std::alloc::Global;
 
-/// The paths to the parts of a document that are its key.
+/// The key of documents: the paths to the parts of a document that form its key.
 #[derive(Drop)]
 pub struct Keys<'a> {
-    /// The paths.
+    /// The parsed paths.
     pub paths: Vec<Path>,
-    /// The paths as text, as they are written on the command line. Reports use these names.
+    /// The texts of the paths, in the same order, as they are written on the command line. Reports
+    /// use these texts as names.
     pub names: Vec<&'a [u8]>,
     ghost paired: { length names.items ≡ length paths.items },
 }
 
-/// Fails if a key is given twice.
+/// Fails if a name occurs twice in `keys`, the names that `--key` gives.
 pub(crate) fn refuse_repeated(keys: &[&[u8]]) -> Result<()> {
     for i in 0..keys.len() {
         if keys[..i].contains(&keys[i]) {
@@ -34,7 +35,9 @@ pub(crate) fn refuse_repeated(keys: &[&[u8]]) -> Result<()> {
     Ok(())
 }
 
-/// Returns the error for the text `word`, which is not a path that a key can have.
+/// Returns the error to print for `word`, a text in `--key` that could not be parsed as a path.
+/// `error` is the parser's error. If `error` is `Invalid` and `word` has `[]`, a hint says that a
+/// key path names a single part.
 fn no_key(error: PathError, word: &str) -> Error {
     let is_list = matches!(error, PathError::Invalid) && word.contains("[]");
     let error = no_path(error, "key", "items[0].sku", word);
@@ -44,7 +47,7 @@ fn no_key(error: PathError, word: &str) -> Error {
     error
 }
 
-/// Parses the path of a key. Fails if the text is not a path.
+/// Parses `word` as a path of the key. Fails if it is not a path.
 fn path_of(alloc: Global, word: &str) -> Result<Path> {
     match parse_path(alloc, word) {
         Ok(path) => Ok(path),
@@ -52,7 +55,8 @@ fn path_of(alloc: Global, word: &str) -> Result<Path> {
     }
 }
 
-/// Parses the paths of a key. Fails if a text is not a path, or a path is given twice.
+/// Parses each of `words` as a path, and returns the key with these paths. Fails if one of `words`
+/// is not a path, or occurs twice.
 fn keys_in<'a>(alloc: Global, words: &[&'a str]) -> Result<Keys<'a>> {
     let mut paths = Vec::new(alloc);
     let mut names = Vec::new(alloc);
@@ -64,8 +68,8 @@ fn keys_in<'a>(alloc: Global, words: &[&'a str]) -> Result<Keys<'a>> {
     Ok(Keys { paths, names })
 }
 
-/// Returns the key that `--key` gives, which is empty if the option is not given. Fails if a text
-/// is not a path, or a path is given twice.
+/// Returns the key that `--key` gives, or a key without paths if the option is not given. Fails if
+/// a text in a list of `--key` is not a path, or occurs twice.
 pub fn keys_of<'a>(alloc: Global, matches: &ArgMatches<'a>) -> Result<Keys<'a>> {
     let words = split_lists(alloc, matches.get_strs("key").unwrap_or(&[]))?;
     keys_in(alloc, &words)

@@ -1,4 +1,5 @@
-//! The kind of the input files, by their names and the options.
+//! The kind of the input files, tables or documents, as file names and options give it, and checks
+//! that refuse options which are for the other kind.
 
 use clap::ArgMatches;
 use dunkelva_messages::error::Result;
@@ -6,7 +7,8 @@ use dunkelva_messages::hints::{begins_with, refuse_not_text};
 use dunkelva_messages::trouble;
 use dunkelva_options::options::{GoesWith, Takes, options};
 
-/// Returns whether a file name ends with `extension`. Letters may be of either case.
+/// Returns whether the file name `name` ends with `extension`. The case of ASCII letters is
+/// ignored.
 fn has_extension(name: &str, extension: &str) -> bool {
     let (name, extension) = (name.as_bytes(), extension.as_bytes());
     if name.len() < extension.len() {
@@ -16,24 +18,26 @@ fn has_extension(name: &str, extension: &str) -> bool {
     end.eq_ignore_ascii_case(extension)
 }
 
-/// Returns whether the name of a file says that it has a document in each line.
+/// Returns whether the file name `name` ends with `.ndjson` or `.jsonl`, which says that each line
+/// of the file is a JSON document.
 fn names_lines(name: &str) -> bool {
     has_extension(name, ".ndjson") || has_extension(name, ".jsonl")
 }
 
-/// Returns whether the name of a file says that it has JSON documents.
+/// Returns whether the file name `name` ends with `.ndjson`, `.jsonl` or `.json`, which says that
+/// the file has JSON documents.
 fn names_documents(name: &str) -> bool {
     names_lines(name) || has_extension(name, ".json")
 }
 
-/// Returns whether an input has no name that could say its format: standard input, or a pipe of the
-/// shell, as `<(..)` makes it.
+/// Returns whether the name of an input says nothing about its format. `name` is then `-`, which is
+/// standard input, or the path of a pipe that the shell makes for `<(..)`.
 fn is_nameless(name: &str) -> bool {
     name == "-" || name.starts_with("/dev/fd/") || name.starts_with("/proc/self/fd/")
 }
 
-/// Fails if a file name ends with `.json`. Such a file may have a document in each line, or a
-/// single document.
+/// Fails if the file name `name` ends with `.json`. Such a file may have a document in each line,
+/// or a single document. The error says how to compare the file.
 fn refuse_json(rt: &HostRuntime, name: &str) -> Result<()> {
     if !has_extension(name, ".json") {
         return Ok(());
@@ -48,14 +52,15 @@ fn refuse_json(rt: &HostRuntime, name: &str) -> Result<()> {
     Err(error.context(name))
 }
 
-/// Returns whether the name of a file says that it is a CSV file.
+/// Returns whether the file name `name` ends with `.csv` or `.tsv`, which says that the file is a
+/// CSV file.
 fn names_table(name: &str) -> bool {
     has_extension(name, ".csv") || has_extension(name, ".tsv")
 }
 
-/// Fails if the file `documents` has JSON documents by its name, and the file `other` is a CSV file
-/// by its name, or begins like a known format that is not UTF-8 text. If `other` has JSON documents
-/// by its name too, it is accepted without being read.
+/// Fails if the name `documents` says that the file has JSON documents, and the file `other` is a
+/// CSV file by its name, or begins like a known format that is not UTF-8 text. If the name `other`
+/// also says that the file has JSON documents, `other` is accepted without being read.
 fn refuse_beside(rt: &HostRuntime, documents: &str, other: &str) -> Result<()> {
     if !names_documents(documents) || names_documents(other) {
         return Ok(());
@@ -70,7 +75,9 @@ fn refuse_beside(rt: &HostRuntime, documents: &str, other: &str) -> Result<()> {
     Ok(())
 }
 
-/// Fails if the names of two files say that they have different formats, unless `--input` is given.
+/// Fails if one of the files `left` and `right` has JSON documents by its name, and the other is a
+/// CSV file by its name, or begins like a known format that is not UTF-8 text. If `--input` is
+/// given, nothing is refused.
 pub fn refuse_two_formats(
     rt: &HostRuntime,
     matches: &ArgMatches<'_>,
@@ -84,10 +91,11 @@ pub fn refuse_two_formats(
     refuse_beside(rt, right, left)
 }
 
-/// Returns whether the two files have documents instead of tables. `--input` decides. Without it,
-/// the file names decide: both have to end with `.ndjson` or `.jsonl`, or neither. Standard input
-/// and a pipe of the shell have the kind of the other file. Fails if a name ends with `.json`, or
-/// if only one of two file names says that the file has documents.
+/// Returns whether the files `left` and `right` have documents instead of tables. If `--input` is
+/// given, its value decides. Otherwise the file names decide: names of files of documents end with
+/// `.ndjson` or `.jsonl`. Standard input and a pipe of the shell have the kind of the other file.
+/// Fails if `--input` is not given and a name ends with `.json`, or only one of two file names ends
+/// with `.ndjson` or `.jsonl`.
 pub fn hold_documents(
     rt: &HostRuntime,
     matches: &ArgMatches<'_>,
@@ -114,9 +122,9 @@ pub fn hold_documents(
     Ok(in_left || in_right)
 }
 
-/// Returns the name of the first given option that is only for files of this kind, or `None` if
-/// there is none. If `takes_value` is true, only options that take a value are examined, and else
-/// only the others.
+/// Returns the name of the first given option that is only for files of the kind `kind`, or `None`
+/// if there is none. If `takes_value` is true, only options that take a value are examined, and
+/// else only options that take none.
 fn given_of(matches: &ArgMatches<'_>, kind: GoesWith, takes_value: bool) -> Option<&'static str> {
     for option in options() {
         let is_given = match option.takes {
@@ -148,9 +156,9 @@ pub fn refuse_document_options(matches: &ArgMatches<'_>) -> Result<()> {
     }
 }
 
-/// Returns the delimiter of CSV files if `--delimiter` is not given: a tab if a file name ends with
-/// `.tsv`, and else a comma. Standard input and a pipe of the shell have the delimiter of the other
-/// file. Fails if only one of two file names ends with `.tsv`.
+/// Returns the delimiter for the CSV files `left` and `right` if `--delimiter` is not given: a tab
+/// if a name ends with `.tsv`, and else a comma. Standard input and a pipe of the shell have the
+/// delimiter of the other file. Fails if only one of two file names ends with `.tsv`.
 pub(crate) fn usual_delimiter(left: &str, right: &str) -> Result<u8> {
     let (in_left, in_right) = (has_extension(left, ".tsv"), has_extension(right, ".tsv"));
     if in_left != in_right && !is_nameless(left) && !is_nameless(right) {

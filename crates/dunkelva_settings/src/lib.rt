@@ -1,4 +1,5 @@
-//! The settings that the options of the program `dunkelva` give, and the options that are refused.
+//! The settings that the options of the program `dunkelva` give. Options that do not fit the input
+//! files or other options are refused.
 #![tactic(auto)]
 
 pub mod keys;

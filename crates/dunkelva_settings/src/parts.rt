@@ -7,8 +7,8 @@ use dunkelva_messages::error::{Error, Result};
 use dunkelva_messages::names::quoted;
 use dunkelva_messages::trouble;
 
-/// Parses a part of the form `I/N`, such as `2/8`. Returns `None` if the text has another form, or
-/// there is no such part.
+/// Parses a text of the form `I/N`, such as `2/8` for part 2 of 8. Returns `None` if the text has
+/// another form, or if there is no such part.
 fn named_part(text: &str) -> Option<Part> {
     let (index, count) = text.split_once('/')?;
     match (index.parse::<u64>(), count.parse::<u64>()) {
@@ -17,8 +17,9 @@ fn named_part(text: &str) -> Option<Part> {
     }
 }
 
-/// Fails if a key column is compared as numbers. The part that a row belongs to depends on the text
-/// of its key.
+/// Fails if a key column of `names` would be compared as numbers: `--numbers` is given, and
+/// `--text` does not name the column. The part that a row belongs to depends on the text of its
+/// key.
 fn refuse_numbers(matches: &ArgMatches<'_>, names: &Names<'_>) -> Result<()> {
     if !matches.get_flag("numbers") {
         return Ok(());
@@ -34,7 +35,8 @@ fn refuse_numbers(matches: &ArgMatches<'_>, names: &Names<'_>) -> Result<()> {
     Ok(())
 }
 
-/// Returns the error for an option that can't be given with `--sorted`.
+/// Returns the error to print if the option named `option` is given with `--sorted`. A hint
+/// suggests `--partition`, unless `option` is `partition`.
 fn unsorted(option: &str) -> Error {
     let error = trouble!("--sorted does not go with --{option}");
     if option == "partition" {
@@ -43,8 +45,8 @@ fn unsorted(option: &str) -> Error {
     error.hint("use --partition for files past memory")
 }
 
-/// Fails if an option is given that can't be given with `--sorted`. Sorted files are merged by the
-/// bytes of their keys.
+/// Fails if `--numbers`, `--partition` or an option for tolerances is given. None of them can be
+/// given with `--sorted`, since sorted files are merged by the bytes of their keys.
 pub fn refuse_unsorted(matches: &ArgMatches<'_>) -> Result<()> {
     if matches.get_flag("numbers") {
         return Err(unsorted("numbers"));
@@ -57,8 +59,9 @@ pub fn refuse_unsorted(matches: &ArgMatches<'_>) -> Result<()> {
     Ok(())
 }
 
-/// Returns the part of the rows to compare, or `None` if all rows are compared. Fails if
-/// `--partition` is invalid, or is given while a key column is compared as numbers.
+/// Returns the part of the rows that `--partition` selects, or `None` if the option is not given.
+/// Fails if the value of the option is invalid, or if the option is given while a key column of
+/// `names` is compared as numbers.
 pub fn part_of_rows(matches: &ArgMatches<'_>, names: &Names<'_>) -> Result<Option<Part>> {
     if matches.contains_id("partition") {
         refuse_numbers(matches, names)?;
@@ -66,8 +69,8 @@ pub fn part_of_rows(matches: &ArgMatches<'_>, names: &Names<'_>) -> Result<Optio
     selected_part(matches)
 }
 
-/// Returns the part of the rows or documents that `--partition` selects, or `None` if the option
-/// is not given. Fails if its value is not `I/N` with I from 1 to N.
+/// Returns the part of the rows or documents that `--partition` selects, or `None` if the option is
+/// not given. Fails if the value of the option is not `I/N` with I from 1 to N.
 pub fn selected_part(matches: &ArgMatches<'_>) -> Result<Option<Part>> {
     let Some(text) = matches.get_str("partition") else {
         return Ok(None);

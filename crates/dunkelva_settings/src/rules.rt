@@ -1,4 +1,5 @@
-//! The rules for documents that `--only`, `--ignore` and the tolerances give.
+//! The rules for comparing documents, as `--only`, `--ignore`, `--missing-is-null` and the options
+//! for tolerances give them.
 
 use clap::ArgMatches;
 use dunkelva_messages::error::{Error, Result};
@@ -21,8 +22,8 @@ pub const ABSOLUTE: &str = "tolerance";
 /// The name of the option for relative tolerances, whose bound is a fraction of the larger number.
 pub const RELATIVE: &str = "relative-tolerance";
 
-/// Returns the error for the text `word`, which is not a path. `example` is a path that the option
-/// accepts.
+/// Returns the error to print for `word`, a text in the option named `option` that could not be
+/// parsed as a path. `error` is the parser's error. `example` is a path that the option accepts.
 pub(crate) fn no_path(error: PathError, option: &str, example: &str, word: &str) -> Error {
     match error {
         PathError::Memory => trouble!("out of memory"),
@@ -33,7 +34,7 @@ pub(crate) fn no_path(error: PathError, option: &str, example: &str, word: &str)
     }
 }
 
-/// Parses a pattern that is given with an option. Fails if the text is not a pattern.
+/// Parses `word`, a text in the option named `option`, as a pattern. Fails if it is not a pattern.
 fn pattern_of(alloc: Global, option: &str, word: &str) -> Result<Pattern> {
     match parse_pattern(alloc, word) {
         Ok(pattern) => Ok(pattern),
@@ -41,8 +42,8 @@ fn pattern_of(alloc: Global, option: &str, word: &str) -> Result<Pattern> {
     }
 }
 
-/// Parses the patterns that an option gives, as a comma-separated list at each use, and appends
-/// them to `patterns`. Fails if a text is not a pattern.
+/// Parses the patterns in the comma-separated lists of the option named `option`, and appends them
+/// to `patterns`. Fails if a text in a list is not a pattern.
 fn push_patterns(
     patterns: &mut Vec<Pattern>,
     alloc: Global,
@@ -56,8 +57,9 @@ fn push_patterns(
     Ok(())
 }
 
-/// Returns the number before a percent sign, such as `2.5` for `2.5%`. Returns `None` for other
-/// texts, and if the number has an exponent or can't be a bound.
+/// Returns the number before the percent sign at the end of `word`, such as `2.5` for `2.5%`.
+/// Returns `None` if `word` does not end with a percent sign, or if the text before the sign has an
+/// exponent or is not a valid bound.
 fn without_percent(word: &str) -> Option<&str> {
     let number = word.strip_suffix('%')?;
     let is_plain = !number.contains(['e', 'E']) && Bound::read(number).is_ok();
@@ -77,7 +79,8 @@ fn is_digits(text: &str) -> bool {
     !text.is_empty() && text.bytes().all(|byte| byte.is_ascii_digit())
 }
 
-/// Returns the error for the text `word`, which is not a bound. A hint says what may be meant.
+/// Returns the error to print for `word`, which is not a valid bound for the option named `option`.
+/// `error` says why. If `word` looks like `.5` or `2.5%`, a hint says how to write the bound.
 fn no_bound(option: &str, word: &str, error: BoundError) -> Error {
     let trouble = trouble!("--{option}: the bound {} {error}", quoted(word));
     if lacks_zero(word) {
@@ -92,9 +95,10 @@ fn no_bound(option: &str, word: &str, error: BoundError) -> Error {
     }
 }
 
-/// Returns the error for the text `word`, which has no equals sign and thus no bound. `takes` says
-/// what the option takes. If `word` is all digits, a hint says how to write decimals: a list is
-/// split at commas, so `price=0,01` leaves the text `01`.
+/// Returns the error to print for `word`, a text in the option named `option` that has no equals
+/// sign and thus no bound. `takes` says in the error what the option takes. If `word` is all
+/// digits, a hint says how to write decimals: a list is split at commas, so `price=0,01` leaves the
+/// text `01`.
 pub(crate) fn without_bound(option: &str, takes: &str, word: &str) -> Error {
     let error = trouble!("--{option} takes {takes}, not {}", quoted(word));
     if is_digits(word) {
@@ -103,11 +107,12 @@ pub(crate) fn without_bound(option: &str, takes: &str, word: &str) -> Error {
     error
 }
 
-/// The relative bound that allows any two numbers, which differ by at most twice the larger one.
+/// The greatest relative bound that is accepted. It allows any two numbers, since two numbers
+/// differ by at most twice the larger of their absolute values.
 const ANY_TWO: &str = "2";
 
-/// Fails if a relative bound is greater than 2, which allows any two numbers. The bound may be
-/// meant as a percentage.
+/// Fails if `word`, a relative bound, is greater than 2. Such a bound allows any two numbers, and
+/// may be meant as a percentage. If `word` is all digits, a hint says how to write a percentage.
 fn refuse_any_two(word: &str) -> Result<()> {
     if !matches!(is_less(ANY_TWO, word), Ok(true)) {
         return Ok(());
@@ -122,8 +127,9 @@ fn refuse_any_two(word: &str) -> Result<()> {
     Err(error)
 }
 
-/// Parses the bound of a tolerance. It is relative if the option is `RELATIVE`, and else absolute.
-/// Fails if the text is not a bound, or a relative bound is greater than 2.
+/// Parses `word`, the bound of a tolerance that the option named `option` gives. The margin is
+/// relative if `option` is `RELATIVE`, and else absolute. Fails if `word` is not a bound, or if a
+/// relative bound is greater than 2.
 pub(crate) fn margin_of(option: &str, word: &str) -> Result<Margin> {
     match Bound::read(word) {
         Ok(bound) if option == RELATIVE => {
@@ -135,8 +141,9 @@ pub(crate) fn margin_of(option: &str, word: &str) -> Result<Margin> {
     }
 }
 
-/// Parses a tolerance for documents, such as `items[].price=0.01`. The bound begins after the last
-/// equals sign. Fails if there is none, or if the path or the bound is invalid.
+/// Parses `word`, a tolerance for documents such as `items[].price=0.01`. The bound begins after
+/// the last equals sign. It is relative if the option's name `option` is `RELATIVE`, and else
+/// absolute. Fails if `word` has no equals sign, or if the path or the bound is invalid.
 fn tolerance_of(alloc: Global, option: &str, word: &str) -> Result<Tolerance> {
     let Some((path, number)) = word.rsplit_once('=') else {
         let takes = "a path and a bound such as items[].price=0.01";
@@ -147,8 +154,8 @@ fn tolerance_of(alloc: Global, option: &str, word: &str) -> Result<Tolerance> {
     Ok(Tolerance { pattern, margin })
 }
 
-/// Parses the tolerances that an option gives, as a comma-separated list at each use, and appends
-/// them to `tolerances`. Fails if one is invalid.
+/// Parses the tolerances in the comma-separated lists of the option named `option`, and appends
+/// them to `tolerances`. Fails if a tolerance is invalid.
 fn push_tolerances(
     tolerances: &mut Vec<Tolerance>,
     alloc: Global,
@@ -162,7 +169,8 @@ fn push_tolerances(
     Ok(())
 }
 
-/// Parses the rules of all options, and appends them to `rules`. Fails if one is invalid.
+/// Parses the values of `--ignore`, `--only`, `--tolerance` and `--relative-tolerance`, and appends
+/// them to the lists of `rules`. Fails if a pattern or a tolerance is invalid.
 fn read_rules(rules: &mut Rules, alloc: Global, matches: &ArgMatches<'_>) -> Result<()> {
     push_patterns(&mut rules.ignored, alloc, matches, "ignore")?;
     push_patterns(&mut rules.only, alloc, matches, "only")?;
@@ -170,7 +178,8 @@ fn read_rules(rules: &mut Rules, alloc: Global, matches: &ArgMatches<'_>) -> Res
     push_tolerances(&mut rules.tolerances, alloc, matches, RELATIVE)
 }
 
-/// Returns the rules that the options give. Fails if one is invalid.
+/// Returns the rules for comparing documents that the options in `matches` give. Fails if a pattern
+/// or a tolerance is invalid.
 pub fn rules_of(alloc: Global, matches: &ArgMatches<'_>) -> Result<Rules> {
     let mut rules = Rules {
         ignored: Vec::new(alloc),

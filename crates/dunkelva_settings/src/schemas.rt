@@ -1,4 +1,4 @@
-//! The settings for schemas.
+//! The settings for schemas, and checks that refuse options which can't be used for them.
 
 use clap::ArgMatches;
 use clap::parser::ValueSource;
@@ -11,7 +11,8 @@ pub fn null_in<'m>(matches: &'m ArgMatches<'_>) -> Option<&'m [u8]> {
     matches.get_str("null").map(|word| word.as_bytes())
 }
 
-/// Fails if an option of `dunkelva schema` is given that is only for tables.
+/// Fails if `--null`, `--delimiter` or `--no-header` is given. These options are only for CSV
+/// files.
 pub fn refuse_of_tables(matches: &ArgMatches<'_>) -> Result<()> {
     for option in ["null", "delimiter"] {
         if matches.contains_id(option) {
@@ -24,7 +25,7 @@ pub fn refuse_of_tables(matches: &ArgMatches<'_>) -> Result<()> {
     Ok(())
 }
 
-/// Fails if an option of `dunkelva schema` is given that is only for documents.
+/// Fails if `--skip-bad` is given. This option is only for JSON documents.
 pub fn refuse_of_documents(matches: &ArgMatches<'_>) -> Result<()> {
     if matches.get_flag("skip-bad") {
         return Err(trouble!("--skip-bad is for JSON documents alone"));
@@ -32,8 +33,8 @@ pub fn refuse_of_documents(matches: &ArgMatches<'_>) -> Result<()> {
     Ok(())
 }
 
-/// Returns whether an option that takes a value is given on the command line. A default does not
-/// count.
+/// Returns whether the option named `option`, which takes a value, is given on the command line. A
+/// default value does not count.
 fn has_value(matches: &ArgMatches<'_>, option: &str) -> bool {
     matches.value_source(option) == Some(ValueSource::CommandLine)
 }

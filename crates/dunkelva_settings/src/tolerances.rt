@@ -1,4 +1,4 @@
-//! The tolerances for columns.
+//! The tolerances for the columns of tables, as `--tolerance` and `--relative-tolerance` give them.
 
 use crate::rules::{ABSOLUTE, RELATIVE, margin_of, without_bound};
 use crate::words::unquoted;
@@ -10,7 +10,8 @@ use dunkelva_messages::trouble;
 use dunkelva_options::lists::split_lists;
 use std::alloc::Global;
 
-/// Fails if a column is a key. Keys are compared exactly.
+/// Fails if `column` is one of the key columns `keys`, since keys are compared exactly. The error
+/// names `option`, the option that gives a tolerance for the column.
 fn refuse_key(option: &str, column: &str, keys: &[&[u8]]) -> Result<()> {
     if keys.contains(&column.as_bytes()) {
         return Err(trouble!(
@@ -21,8 +22,9 @@ fn refuse_key(option: &str, column: &str, keys: &[&[u8]]) -> Result<()> {
     Ok(())
 }
 
-/// Parses a tolerance for a column, such as `amount=0.01`. The bound begins after the last equals
-/// sign. Fails if there is none, if the column is a key, or if the bound is invalid.
+/// Parses `word`, a tolerance for a column such as `amount=0.01`. The bound begins after the last
+/// equals sign. It is relative if the option's name `option` is `RELATIVE`, and else absolute.
+/// Fails if `word` has no equals sign, if the column is one of `keys`, or if the bound is invalid.
 fn tolerance_of<'a>(option: &str, word: &'a str, keys: &[&[u8]]) -> Result<Tolerance<'a>> {
     let Some((column, number)) = word.rsplit_once('=') else {
         let takes = "a column and a bound such as amount=0.01";
@@ -37,8 +39,9 @@ fn tolerance_of<'a>(option: &str, word: &'a str, keys: &[&[u8]]) -> Result<Toler
     })
 }
 
-/// Parses the tolerances in the comma-separated lists of an option, and appends them. A comma
-/// within quotes is part of a name.
+/// Parses the tolerances in the comma-separated lists of the option named `option`, and appends
+/// them to `tolerances`. A comma within quotes is part of a name. Fails if a tolerance is invalid,
+/// or is for one of the key columns `keys`.
 fn push_tolerances<'a>(
     tolerances: &mut Vec<Tolerance<'a>>,
     alloc: Global,
@@ -53,8 +56,8 @@ fn push_tolerances<'a>(
     Ok(())
 }
 
-/// Returns the tolerances for columns that the options give. Fails if one is invalid, or is for a
-/// key column.
+/// Returns the tolerances that `--tolerance` and `--relative-tolerance` give. Fails if one is
+/// invalid, or is for one of the key columns `keys`.
 pub fn tolerances_of<'a>(
     alloc: Global,
     matches: &ArgMatches<'a>,

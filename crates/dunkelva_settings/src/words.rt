@@ -18,17 +18,17 @@ use std::io::IsTerminal;
 /// The names of columns that the options give, as bytes.
 #[derive(Drop)]
 pub struct Names<'a> {
-    /// The key columns.
+    /// The key columns, as `--key` gives them.
     pub keys: Vec<&'a [u8]>,
-    /// The columns to compare, as `--only` gives them. Empty if it is not given.
+    /// The columns to compare, as `--only` gives them. Empty if `--only` is not given.
     pub only: Vec<&'a [u8]>,
-    /// The columns that are not compared.
+    /// The columns that are not compared, as `--ignore` gives them.
     pub ignored: Vec<&'a [u8]>,
-    /// The columns whose cells are compared as text.
+    /// The columns to compare as text even with `--numbers`, as `--text` gives them.
     pub texts: Vec<&'a [u8]>,
 }
 
-/// Returns a name without the quotes around it, or unchanged if it has none.
+/// Returns `name` without the quotes around it, or unchanged if it is not in quotes.
 pub(crate) fn unquoted(name: &str) -> &str {
     match name.strip_prefix('"') {
         Some(rest) => rest.strip_suffix('"').unwrap_or(name),
@@ -36,8 +36,8 @@ pub(crate) fn unquoted(name: &str) -> &str {
     }
 }
 
-/// Appends the names in a comma-separated list, without their quotes. A comma within quotes is part
-/// of a name.
+/// Appends the names in the comma-separated list `list` to `names`, without the quotes around them.
+/// A comma within quotes is part of a name.
 fn push_quoted<'a>(
     names: &mut Vec<&'a [u8]>,
     alloc: Global,
@@ -49,8 +49,9 @@ fn push_quoted<'a>(
     Ok(())
 }
 
-/// Appends the names in a comma-separated list. Quotes count only if one stands at the beginning of
-/// the list or directly after a comma.
+/// Appends the names in the comma-separated list `list` to `names`. If a quote stands at the
+/// beginning of `list` or directly after a comma, quotes around names are removed, and a comma
+/// within quotes is part of a name. Otherwise `list` is split at every comma.
 fn push_list<'a>(
     names: &mut Vec<&'a [u8]>,
     alloc: Global,
@@ -65,7 +66,7 @@ fn push_list<'a>(
     Ok(())
 }
 
-/// Appends the names in all lists of an option.
+/// Appends the names in all lists of the option named `option` to `names`.
 fn push_names<'a>(
     names: &mut Vec<&'a [u8]>,
     alloc: Global,
@@ -79,7 +80,8 @@ fn push_names<'a>(
 }
 
 impl<'a> Names<'a> {
-    /// Appends the names that the options give. Fails if a key is given twice.
+    /// Reads the names that the options in `matches` give, and appends them to the lists of `self`.
+    /// Fails if `--key` gives a name twice.
     fn read(&mut self, alloc: Global, matches: &ArgMatches<'a>) -> Result<()> {
         push_names(&mut self.keys, alloc, matches, "key")?;
         push_names(&mut self.only, alloc, matches, "only")?;
@@ -88,7 +90,7 @@ impl<'a> Names<'a> {
         refuse_repeated(&self.keys)
     }
 
-    /// Returns the names that the options give. Fails if a key is given twice.
+    /// Returns the names that the options in `matches` give. Fails if `--key` gives a name twice.
     pub fn of(alloc: Global, matches: &ArgMatches<'a>) -> Result<Names<'a>> {
         let mut names = Names {
             keys: Vec::new(alloc),
@@ -106,6 +108,7 @@ impl<'a> Names<'a> {
 fn byte_of(text: &str) -> Option<u8> {
     if let Some(digits) = text.strip_prefix("\\x")
         && digits.len() == 2
+        && !digits.starts_with('+')
     {
         return u8::from_str_radix(digits, 16).ok();
     }
@@ -116,8 +119,8 @@ fn byte_of(text: &str) -> Option<u8> {
     }
 }
 
-/// Parses a delimiter: a byte below 128, as `byte_of` does. Fails for other texts, and if the byte
-/// is a quote or ends lines.
+/// Parses the value of `--delimiter` as a byte (`byte_of`). Fails if the text is not a byte below
+/// 128, or if the byte is a quote, a line feed or a carriage return.
 fn delimiter_of(text: &str) -> Result<u8> {
     let Some(byte) = byte_of(text).filter(u8::is_ascii) else {
         return Err(trouble!(
@@ -133,8 +136,9 @@ fn delimiter_of(text: &str) -> Result<u8> {
     Ok(byte)
 }
 
-/// Returns the options for reading two CSV files. Fails if `--delimiter` is invalid. Fails without
-/// it if only one of two file names ends with `.tsv`.
+/// Returns the options for reading the CSV files named `left` and `right`. Fails if the value of
+/// `--delimiter` is invalid. Without `--delimiter`, fails if the names call for different
+/// delimiters (`usual_delimiter`).
 pub fn csv_options(matches: &ArgMatches<'_>, left: &str, right: &str) -> Result<CsvOptions> {
     let delimiter = match matches.get_str("delimiter") {
         Some(text) => delimiter_of(text)?,
@@ -146,9 +150,9 @@ pub fn csv_options(matches: &ArgMatches<'_>, left: &str, right: &str) -> Result<
     })
 }
 
-/// Parses the value of an option as an integer. Returns `None` if the option has no value and no
-/// default. Fails if the value is not an integer from 0 on. `takes` says in the error what the
-/// option takes.
+/// Parses the value of the option named `option` as an integer. Returns `None` if the option has no
+/// value and no default. Fails if the value is not an integer from 0 on. `takes` says in the error
+/// what the option takes.
 fn number_of(matches: &ArgMatches<'_>, option: &str, takes: &str) -> Result<Option<usize>> {
     let Some(text) = matches.get_str(option) else {
         return Ok(None);
@@ -173,14 +177,14 @@ pub enum Target<'a> {
     Page(&'a str),
 }
 
-/// The most differences in a page if `--limit` is not given.
+/// The greatest number of differences in an HTML page if `--limit` is not given.
 const MOST_IN_PAGE: usize = 10_000;
 
-/// The least width for aligned columns.
+/// The least value of `--width`.
 const LEAST_WIDTH: usize = 40;
 
-/// Returns the width for aligned columns, or `None` if `--width` is not given. Fails if it is less
-/// than 40, or not an integer.
+/// Returns the value of `--width`, the greatest width of a line, or `None` if the option is not
+/// given. Fails if the value is not an integer, or is less than 40.
 fn width_of(matches: &ArgMatches<'_>) -> Result<Option<usize>> {
     let width = number_of(matches, "width", "a whole number of columns such as 100")?;
     if let Some(width) = width
@@ -191,8 +195,9 @@ fn width_of(matches: &ArgMatches<'_>) -> Result<Option<usize>> {
     Ok(width)
 }
 
-/// Returns the destination and the form of the report. Fails if `--width` is invalid, or `--html`
-/// names standard output.
+/// Returns the destination and the form of the report, as `--width`, `--html` and `--markdown` give
+/// them. Fails if the value of `--width` is invalid, or if `--width` is not given and the value of
+/// `--html` is `-`.
 pub fn target_of<'a>(rt: &HostRuntime, matches: &ArgMatches<'a>) -> Result<Target<'a>> {
     if let Some(width) = width_of(matches)? {
         let colored = is_colored(rt, matches);
@@ -208,9 +213,9 @@ pub fn target_of<'a>(rt: &HostRuntime, matches: &ArgMatches<'a>) -> Result<Targe
     }
 }
 
-/// Returns the greatest number of differences to print: 0 with `--summary`, and all with `--limit
-/// 0`. Without `--limit` it is 10,000 for a page, and else 20. Fails if `--limit` is not an integer
-/// from 0 on.
+/// Returns the greatest number of differences to print: 0 with `--summary`, and else the value of
+/// `--limit`, where 0 stands for all differences. Without `--limit` the number is 10,000 for an
+/// HTML page, and else 20. Fails if the value of `--limit` is not an integer from 0 on.
 pub fn limit_of(matches: &ArgMatches<'_>) -> Result<usize> {
     let limit = number_of(matches, "limit", "a whole number such as 100, or 0 for all")?;
     if matches.get_flag("summary") {
@@ -227,8 +232,9 @@ pub fn limit_of(matches: &ArgMatches<'_>) -> Result<usize> {
     }
 }
 
-/// Returns the format in which the report is made. Pages, Markdown and aligned columns are made of
-/// JSON lines.
+/// Returns the format in which the report is made, as `--format` gives it. With `--html`,
+/// `--markdown` or `--width` the format is JSON, since pages, Markdown and aligned columns are made
+/// from JSON lines.
 pub fn format_of(matches: &ArgMatches<'_>) -> Format {
     if matches.contains_id("html") || matches.get_flag("markdown") || matches.contains_id("width") {
         return Format::Json;
@@ -248,8 +254,8 @@ fn asks_no_color(rt: &HostRuntime) -> bool {
     }
 }
 
-/// Returns whether the report has colours, as `--color` says. By default it has colours on a
-/// terminal, unless `NO_COLOR` is set.
+/// Returns whether the report has colours, as `--color` says. By default the report has colours if
+/// standard output is a terminal, unless `NO_COLOR` is set and not empty.
 pub fn is_colored(rt: &HostRuntime, matches: &ArgMatches<'_>) -> bool {
     match matches.get_str("color") {
         Some("always") => true,

@@ -3,7 +3,8 @@
 use std::io;
 use std::io::ErrorKind;
 
-/// The number of calls of a stream that still succeed.
+/// The number of calls of a stream that may still succeed (`left`). If `interrupting` is true, each
+/// call is interrupted once. `interrupted` says whether the last call was interrupted.
 #[derive(Clone, Copy)]
 pub struct Calls {
     left: usize,
@@ -12,7 +13,7 @@ pub struct Calls {
 }
 
 impl Calls {
-    /// Allows `left` calls. If the stream is interrupting, each of them is interrupted once.
+    /// Allows `left` calls. If `interrupting`, each call is interrupted once before it succeeds.
     pub fn new(left: usize, interrupting: bool) -> Calls {
         Calls {
             left,
@@ -21,7 +22,8 @@ impl Calls {
         }
     }
 
-    /// Counts a call. It fails if it is to be interrupted, or if no call is left.
+    /// Counts a call that succeeds. Returns the error `Interrupted` if the call is to be
+    /// interrupted, or otherwise `BrokenPipe` if no call is left.
     pub fn count(&mut self) -> io::Result<()> {
         if self.interrupting && !self.interrupted {
             self.interrupted = true;

@@ -8,7 +8,8 @@ use polars_tables_lines::demo::demo;
 use polars_tables_lines::running::{Report, RunError, run};
 use std::alloc::Global;
 
-/// Returns the outcome of a run or of the demo, and the bytes that its writer accepted.
+/// Runs the case that `line` describes, and returns the outcome and the bytes that the writer
+/// accepted, as text. Fails if `line` describes no case.
 pub fn answer(alloc: Global, line: &str) -> Result<String> {
     let (manner, line) = Manner::read(line)?;
     match line.strip_prefix("demo ") {
@@ -17,7 +18,8 @@ pub fn answer(alloc: Global, line: &str) -> Result<String> {
     }
 }
 
-/// Returns the outcome of a run over the input of a line, and the bytes that its writer accepted.
+/// Runs the lines of an input, and returns the outcome and the bytes that the writer accepted, as
+/// text. `line` has the number of reads, the number of writes, and the input. Fails if it does not.
 fn answer_input(alloc: Global, line: &str, manner: Manner) -> Result<String> {
     let (reads, rest) = line.split_once(' ').context("no reads")?;
     let (writes, bytes) = rest.split_once(' ').context("no writes")?;
@@ -25,8 +27,8 @@ fn answer_input(alloc: Global, line: &str, manner: Manner) -> Result<String> {
     answer_run(alloc, &input, reads, writes, manner)
 }
 
-/// Returns the bytes of a word, and then, if given, those of another word, repeated a number of
-/// times.
+/// Returns the input that `text` describes: the bytes of its first word and, if two more words
+/// `TIMES PIECE` follow, the bytes of `PIECE` repeated `TIMES` times. Fails if a word is malformed.
 fn read_input(alloc: Global, text: &str) -> Result<Vec<u8>> {
     let Some((bytes, more)) = text.split_once(' ') else {
         return read_bytes(alloc, text);
@@ -37,19 +39,21 @@ fn read_input(alloc: Global, text: &str) -> Result<Vec<u8>> {
     Ok(input)
 }
 
-/// Appends the bytes of a word, repeated a number of times.
+/// Appends to `input` the bytes that the word `piece` describes, repeated `times` times. Fails if
+/// `times` is not a number, or `piece` is malformed.
 fn push_pieces(alloc: Global, input: &mut Vec<u8>, times: &str, piece: &str) -> Result<()> {
     let times = times.parse()?;
     push_repeated(input, times, &read_bytes(alloc, piece)?)
 }
 
-/// Returns the bytes that a word writes.
+/// Returns the bytes that `word` describes: `x`, and two hexadecimal digits for each byte. Fails if
+/// `word` does not have this form.
 fn read_bytes(alloc: Global, word: &str) -> Result<Vec<u8>> {
     let digits = word.strip_prefix('x').context("no bytes")?;
     Ok(hex::decode(alloc, digits)?)
 }
 
-/// Appends bytes `times` times.
+/// Appends the bytes of `piece` to `input`, `times` times.
 fn push_repeated(input: &mut Vec<u8>, times: u32, piece: &[u8]) -> Result<()> {
     for _ in 0..times {
         input.extend_from_slice(piece)?;
@@ -57,7 +61,8 @@ fn push_repeated(input: &mut Vec<u8>, times: u32, piece: &[u8]) -> Result<()> {
     Ok(())
 }
 
-/// Returns the outcome of a run, and the bytes that its writer accepted.
+/// Runs the lines of `input`, and returns the outcome and the bytes that the writer accepted, as
+/// text. `reads` and `writes` are the numbers of calls that succeed. Fails if one is not a number.
 fn answer_run(
     alloc: Global,
     input: &[u8],
@@ -73,21 +78,24 @@ fn answer_run(
     write_outcome(alloc, outcome_text(alloc, &outcome), writer.taken())
 }
 
-/// Returns the outcome of the demo, and the bytes that its writer accepted.
+/// Runs the demo, and returns the outcome and the bytes that the writer accepted, as text. `writes`
+/// is the number of writes that succeed. Fails if it is not a number.
 fn answer_demo(alloc: Global, writes: &str, manner: Manner) -> Result<String> {
     let mut writer = SlowWriter::new(alloc, writes.parse()?, manner);
     let outcome = demo(alloc, &mut writer);
     write_outcome(alloc, demo_text(alloc, &outcome), writer.taken())
 }
 
-/// Returns an outcome, and the bytes that a writer accepted.
+/// Returns the text `said`, a space, `x`, and the bytes of `taken` in hexadecimal. If `said` is an
+/// error, returns it.
 fn write_outcome(alloc: Global, said: Result<String>, taken: &[u8]) -> Result<String> {
     let said = said?;
     let taken = hex::encode(alloc, taken)?;
     Ok(format!(in alloc; "{said} x{taken}")?)
 }
 
-/// Returns the outcome of a run as text.
+/// Returns the text of the outcome of a run: the numbers of lines and of refused lines, or the
+/// error.
 fn outcome_text(alloc: Global, outcome: &Result<Report, RunError>) -> Result<String> {
     let text = match outcome {
         Ok(report) => format!(in alloc; "ok lines {} refused {}", report.lines, report.refused),
@@ -96,7 +104,7 @@ fn outcome_text(alloc: Global, outcome: &Result<Report, RunError>) -> Result<Str
     Ok(text?)
 }
 
-/// Returns the outcome of the demo as text.
+/// Returns the text of the outcome of the demo: `ok`, or the error.
 fn demo_text(alloc: Global, outcome: &Result<(), RunError>) -> Result<String> {
     let text = match outcome {
         Ok(()) => "ok".to_string(alloc),

@@ -27,7 +27,8 @@ mod manner;
 mod slow_reader;
 mod slow_writer;
 
-/// Prints a line that begins with `#`, or a case and its result.
+/// Prints `line` if it begins with `#`. Otherwise runs the case that `line` describes, and prints
+/// `line` and the outcome.
 fn print_line(rt: &(impl Print + AllocGlobal), line: &str) -> Result<()> {
     if line.starts_with('#') {
         println!(rt; "{line}")?;
@@ -38,6 +39,7 @@ fn print_line(rt: &(impl Print + AllocGlobal), line: &str) -> Result<()> {
     Ok(())
 }
 
+/// Prints an output line for each line of standard input.
 fn main(rt: HostRuntime) -> Result<()> {
     for line in rt.lines(rt.alloc()) {
         print_line(&rt, &line?)?;

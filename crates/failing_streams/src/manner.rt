@@ -2,21 +2,22 @@
 
 use anyhow::{Context, Result};
 
-/// The behaviour of the streams of a case.
+/// The behaviour of the reader and the writer of a case.
 #[derive(Clone, Copy)]
 pub struct Manner {
     /// Each call is interrupted once before it succeeds.
     pub interrupting: bool,
-    /// A read reports one byte more than it gave, if the buffer has room for it.
+    /// A read that gives bytes reports one more than it gave, if the buffer has room for one more.
     pub boasting: bool,
-    /// A writer that is called too often accepts nothing, and does not fail.
+    /// After its last successful write, a writer accepts 0 bytes instead of failing.
     pub stopping: bool,
     /// Greatest number of bytes that a call gives or accepts.
     pub pace: usize,
 }
 
 impl Manner {
-    /// Reads the words before a line, and returns the rest of the line.
+    /// Reads the words that may come before a case, and returns the manner that they describe and
+    /// the rest of the line. Fails if `pieces` is not followed by a number and a space.
     pub fn read(line: &str) -> Result<(Manner, &str)> {
         let (line, interrupting) = take_word(line, "interrupted ");
         let (line, boasting) = take_word(line, "boasting ");
@@ -32,7 +33,8 @@ impl Manner {
     }
 }
 
-/// Returns whether a line begins with a word, and the rest of the line.
+/// Returns the rest of `line` after `word` and `true`, or `line` and `false` if `line` does not
+/// begin with `word`.
 fn take_word<'a>(line: &'a str, word: &str) -> (&'a str, bool) {
     match line.strip_prefix(word) {
         Some(rest) => (rest, true),
@@ -40,8 +42,8 @@ fn take_word<'a>(line: &'a str, word: &str) -> (&'a str, bool) {
     }
 }
 
-/// Returns the number after the word `pieces` at the beginning of a line, or 1, and the rest of the
-/// line.
+/// Returns the rest of `line` after `pieces N ` and the number `N`, or `line` and 1 if `line` does
+/// not begin with `pieces `. Fails if `N` is not a number, or if no space follows it.
 fn take_pace(line: &str) -> Result<(&str, usize)> {
     let Some(rest) = line.strip_prefix("pieces ") else {
         return Ok((line, 1));

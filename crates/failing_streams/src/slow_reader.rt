@@ -7,7 +7,8 @@ use crate::manner::Manner;
 use std::io;
 use std::io::Read;
 
-/// A reader that gives its bytes a few at a time, and fails after a number of reads.
+/// A reader that gives its bytes a few at a time, and fails after a number of reads. The bytes that
+/// are left are `bytes`.
 #[derive(Drop)]
 pub struct SlowReader<'a> {
     bytes: &'a [u8],
@@ -16,6 +17,7 @@ pub struct SlowReader<'a> {
 }
 
 impl<'a> SlowReader<'a> {
+    /// Creates a reader of `bytes` that succeeds in `reads` calls and behaves as `manner` says.
     pub fn new(bytes: &'a [u8], reads: usize, manner: Manner) -> SlowReader<'a> {
         SlowReader {
             bytes,
@@ -25,8 +27,8 @@ impl<'a> SlowReader<'a> {
     }
 }
 
-// Returns the number of bytes that a read gives, for a pace, the room in its buffer, and the number
-// of bytes left.
+// Returns the number of bytes that a read gives: the least of `pace`, `room`, the length of its
+// buffer, and `left`, the number of bytes left.
 fn given(pace: usize, room: usize, left: usize) -> usize
     ensures room { result ≤ room }
     ensures left { result ≤ left }

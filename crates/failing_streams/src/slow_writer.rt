@@ -6,7 +6,8 @@ use std::alloc::Global;
 use std::io;
 use std::io::Write;
 
-/// A writer that accepts a few bytes at a time, and fails or stops after a number of writes.
+/// A writer that accepts a few bytes at a time, and fails or stops after a number of writes. The
+/// bytes that it accepted are `taken`.
 #[derive(Drop)]
 pub struct SlowWriter {
     taken: Vec<u8>,
@@ -15,6 +16,7 @@ pub struct SlowWriter {
 }
 
 impl SlowWriter {
+    /// Creates a writer that accepts bytes in `writes` calls and behaves as `manner` says.
     pub fn new(alloc: Global, writes: usize, manner: Manner) -> SlowWriter {
         SlowWriter {
             taken: Vec::new(alloc),

@@ -1,13 +1,16 @@
 //! Operations on arrays of numbers of a type of 8 to 64 bits.
 //!
-//! - `wrapping_abs A`, `wrapping_neg A`: the rows of the function's results
-//! - `wrapping_add A B`, and so of `sub`, `mul`, `floor_div`, `trunc_div` and `mod`,
-//!   `legacy_div A B`: the rows of the operation's results for two arrays of one type and length
-//! - `wrapping_add_scalar A NUMBER` and so on: the rows of the operation's results for an array and
-//!   a number
-//! - `wrapping_sub_scalar_lhs NUMBER A`, and so of `floor_div`, `trunc_div` and `mod`,
-//!   `legacy_div_scalar_lhs NUMBER A`: the rows of the operation's results for a number and an
-//!   array
+//! Each item below gives a call. Its result is the array of the results, as text.
+//!
+//! - `wrapping_abs A` and `wrapping_neg A`: for the numbers of an array
+//! - `wrapping_add A B`, and in the same form `wrapping_sub`, `wrapping_mul`, `wrapping_floor_div`,
+//!   `wrapping_trunc_div`, `wrapping_mod` and `legacy_div`: for the numbers at each index of two
+//!   arrays of one type and length
+//! - `wrapping_add_scalar A NUMBER`, and in the same form each other operation with `_scalar` after
+//!   its name: for the numbers of an array and a number
+//! - `wrapping_sub_scalar_lhs NUMBER A`, and in the same form `wrapping_floor_div_scalar_lhs`,
+//!   `wrapping_trunc_div_scalar_lhs`, `wrapping_mod_scalar_lhs` and `legacy_div_scalar_lhs`: for a
+//!   number and the numbers of an array
 
 ghost use Rattle.std.specs.Prelude.{◌≡◌, length};
 ghost use Rattle.recorded_text.specs.Cases.{HasGoodArrays};
@@ -26,7 +29,7 @@ use std::alloc::Global;
 use std::fmt::Display;
 use std::str::FromStr;
 
-/// Applies a function to numbers of one type, and returns the rows.
+/// Applies a function to the rows `part` of an array, and returns the results as text.
 pub fn write_applied<T: HasPrimitiveArithmeticKernel + Display>(
     alloc: Global,
     function: Function,
@@ -38,7 +41,7 @@ pub fn write_applied<T: HasPrimitiveArithmeticKernel + Display>(
     write_made(alloc, made)
 }
 
-// Applies a function to numbers.
+// Returns the array of the function's results for the rows of an array. The error is `Memory`.
 fn apply<T: HasPrimitiveArithmeticKernel>(
     alloc: Global,
     function: Function,
@@ -50,7 +53,8 @@ fn apply<T: HasPrimitiveArithmeticKernel>(
     }
 }
 
-/// Applies an operation to two arrays, and returns the rows.
+/// Reads two operands, applies the operation to the numbers at each index, and returns the results
+/// as text.
 pub fn of_arrays(
     alloc: Global,
     operation: Operation,
@@ -64,7 +68,9 @@ pub fn of_arrays(
     ask_both(alloc, AskedBoth::Operate(operation), these, those)
 }
 
-/// Applies an operation to two arrays of one type, and returns the rows.
+/// Applies an operation to the numbers at each index of parts of two arrays, and returns the
+/// results as text. The first part is of `left`, the second of `right`. The error is `Case` if the
+/// parts differ in length.
 pub fn write_operated<T: HasPrimitiveArithmeticKernel + Display>(
     alloc: Global,
     operation: Operation,
@@ -77,7 +83,8 @@ pub fn write_operated<T: HasPrimitiveArithmeticKernel + Display>(
     write_made(alloc, made)
 }
 
-// Applies an operation to two arrays of equal length.
+// Returns the array of the operation's results for the numbers at each index of two arrays of equal
+// length.
 fn operate<T: HasPrimitiveArithmeticKernel>(
     alloc: Global,
     operation: Operation,
@@ -97,7 +104,8 @@ fn operate<T: HasPrimitiveArithmeticKernel>(
     }
 }
 
-/// Applies an operation to an array and a number, and returns the rows.
+/// Reads an operand and a number, applies the operation to each number of the operand and the
+/// number, and returns the results as text.
 pub fn of_array_and_number(
     alloc: Global,
     operation: Operation,
@@ -110,7 +118,9 @@ pub fn of_array_and_number(
     ask(alloc, Asked::OperateBy(operation, words.read()?), these)
 }
 
-/// Applies an operation to an array of one type and the number of a word, and returns the rows.
+/// Applies an operation to each number of the rows `part` of an array and the number that `word`
+/// gives, and returns the results as text. The error is `Word` if `word` gives no number of the
+/// array's type.
 pub fn write_operated_by<T: HasPrimitiveArithmeticKernel + Display + FromStr<Err: Drop>>(
     alloc: Global,
     operation: Operation,
@@ -124,7 +134,7 @@ pub fn write_operated_by<T: HasPrimitiveArithmeticKernel + Display + FromStr<Err
     write_made(alloc, made)
 }
 
-// Applies an operation to an array and a number.
+// Returns the array of the operation's results for each number of `left` and the number `right`.
 fn operate_by<T: HasPrimitiveArithmeticKernel>(
     alloc: Global,
     operation: Operation,
@@ -142,7 +152,8 @@ fn operate_by<T: HasPrimitiveArithmeticKernel>(
     }
 }
 
-/// Applies an operation to a number and an array, and returns the rows.
+/// Reads a number and an operand, applies the operation to the number and each number of the
+/// operand, and returns the results as text.
 pub fn of_number_and_array(
     alloc: Global,
     operation: Operation,
@@ -155,7 +166,9 @@ pub fn of_number_and_array(
     ask_next(alloc, Asked::OperateFrom(operation, word), store, words)
 }
 
-/// Applies an operation to the number of a word and an array of its type, and returns the rows.
+/// Applies an operation to the number that `word` gives and each number of the rows `part` of an
+/// array, and returns the results as text. The error is `Word` if `word` gives no number of the
+/// array's type.
 pub fn write_operated_from<T: HasPrimitiveArithmeticKernel + Display + FromStr<Err: Drop>>(
     alloc: Global,
     operation: Operation,
@@ -169,7 +182,8 @@ pub fn write_operated_from<T: HasPrimitiveArithmeticKernel + Display + FromStr<E
     write_made(alloc, made)
 }
 
-// Applies an operation to a number and an array. Sums and products have no such form.
+// Returns the array of the operation's results for the number `left` and each number of `right`.
+// The error is `Unsupported` for `Add` and `Mul`, which have no such form.
 fn operate_from<T: HasPrimitiveArithmeticKernel>(
     alloc: Global,
     operation: Operation,

@@ -1,18 +1,18 @@
-//! The calls by name.
+//! The calls of arithmetic, and their names.
 
 use crate::operations::{Function, Operation};
 use recorded_text::names::find;
 
-/// A call.
+/// A call of arithmetic. The comments say what the call computes.
 #[derive(Clone, Copy)]
 pub enum Call {
-    /// A function of an array.
+    /// A function of each number of an array.
     Apply(Function),
-    /// An operation on two arrays.
+    /// An operation on the numbers at each index of two arrays.
     Operate(Operation),
-    /// An operation on an array and a number.
+    /// An operation on each number of an array and a number.
     OperateBy(Operation),
-    /// An operation on a number and an array.
+    /// An operation on a number and each number of an array.
     OperateFrom(Operation),
     /// A function of the stored values of an array.
     UnaryValues,
@@ -26,22 +26,22 @@ pub enum Call {
     SumRows,
     /// The sum of the stored values of an array.
     SumValues,
-    /// The sum of the stored values of an array whose bit is 1.
+    /// The sum of the stored values of an array with a 1 in given bits.
     SumMasked,
-    /// A function of or an operation on single numbers.
+    /// A function of one number, or an operation on two numbers.
     Calculate,
-    /// The sum of two single numbers.
+    /// The sum of two numbers.
     AddNumbers,
 }
 
 impl Call {
-    /// Returns the call of a name, or `None` for a call of another subject.
+    /// Returns the call with this name, or `None` if no call of arithmetic has it.
     pub fn named(name: &str) -> Option<Call> {
         find(&CALLS, name)
     }
 }
 
-// The calls by name.
+// The calls and their names.
 const CALLS: [(&str, Call); 32] = [
     ("wrapping_abs", Call::Apply(Function::Abs)),
     ("wrapping_neg", Call::Apply(Function::Neg)),

@@ -1,14 +1,15 @@
-//! Functions applied to the stored values of arrays.
+//! Functions applied to the stored values of arrays, also those of null rows.
 //!
-//! - `prim_unary_values FUNCTION A`: the rows of the array of the function's results
-//! - `prim_unary_in_place FUNCTION A`: the rows of the array of the function's results, for numbers
-//!   of 8 to 64 bits
-//! - `prim_binary_values FUNCTION A B`: the rows of the array of the function's results for the
-//!   pairs of values of two arrays of equal length
-//! - `prim_binary_in_place FUNCTION A B`: the rows of the array of the function's results for the
-//!   pairs of values of two arrays of one type and length
+//! Each item below gives a call. Its result is the array of the function's results, as text.
 //!
-//! Each call has FUNCTIONs of its own.
+//! - `prim_unary_values FUNCTION A`: for the values of an array; FUNCTION is `doubled`, `widened`,
+//!   `negated` or `is_zero`
+//! - `prim_unary_in_place FUNCTION A`: for the values of an array of numbers of 8 to 64 bits;
+//!   FUNCTION is `next` or `square`
+//! - `prim_binary_values FUNCTION A B`: for the values at each index of two arrays of equal length;
+//!   FUNCTION is `joined`, `product` or `is_less`
+//! - `prim_binary_in_place FUNCTION A B`: for the values at each index of two arrays of one type
+//!   and length; FUNCTION is `left`, `right` or `greater`
 
 ghost use Rattle.recorded_text.specs.Cases.{HasGoodArrays};
 
@@ -28,8 +29,9 @@ use recorded_text::words::Words;
 use std::alloc::Global;
 use std::fmt::Display;
 
-/// Returns the results of a function for each value of an array: twice the value, the value in a
-/// wider type, the value negated, or whether it is 0.
+/// Reads the name of a function and an operand, and returns the function's results for the values
+/// of the operand, as text: `doubled` for `u8`, `widened` (to `i128`) for `i32`, `negated` for
+/// `i64`, and `is_zero` (1 or 0) for `u64`. The error is `Case` for any other function or type.
 pub fn unary_values(alloc: Global, store: &Store, words: &mut Words) -> Result<String, Fault>
     requires { HasGoodArrays store.now }
 {
@@ -47,7 +49,7 @@ pub fn unary_values(alloc: Global, store: &Store, words: &mut Words) -> Result<S
     }
 }
 
-// Returns the results of a function for each value.
+// Returns the results of `op` for the values of the rows `part` of an array, as text.
 fn write_mapped<I: NativeType, O: NativeType + Display, F: Fn(I) -> O>(
     alloc: Global,
     array: &PrimitiveArray<I>,
@@ -61,8 +63,10 @@ fn write_mapped<I: NativeType, O: NativeType + Display, F: Fn(I) -> O>(
     write_made(alloc, made)
 }
 
-/// Returns the results of a function for the pairs of values of two arrays: a byte before another,
-/// the product, or whether the left one is less.
+/// Reads the name of a function and two operands, and returns the function's results for the values
+/// at each index, as text: `joined` (256 times the left value plus the right one) for two `u8`,
+/// `product` for `i8` and `i16`, and `is_less` (1 or 0) for `i64` and `u32`. The error is `Case`
+/// for any other function or types, or if the lengths differ.
 pub fn binary_values(alloc: Global, store: &Store, words: &mut Words) -> Result<String, Fault>
     requires { HasGoodArrays store.now }
 {
@@ -90,7 +94,9 @@ pub fn binary_values(alloc: Global, store: &Store, words: &mut Words) -> Result<
     }
 }
 
-// Returns the results of a function for pairs of values.
+// Returns the results of `op` for the values at each index of parts of two arrays, as text. The
+// first part is of `left`, the second of `right`. The error is `Case` if the parts differ in
+// length.
 fn write_pairs<L: NativeType, R: NativeType, O: NativeType + Display, F: Fn(L, R) -> O>(
     alloc: Global,
     left: &PrimitiveArray<L>,
@@ -105,7 +111,7 @@ fn write_pairs<L: NativeType, R: NativeType, O: NativeType + Display, F: Fn(L, R
     write_made(alloc, made)
 }
 
-/// A function of a value, with a result of its type.
+/// A function of a value. The result has the value's type, and is wrapped to it.
 #[derive(Clone, Copy)]
 pub enum Change {
     /// The value plus 1.
@@ -115,6 +121,7 @@ pub enum Change {
 }
 
 impl Change {
+    // Returns the function with this name, or `None` if there is none.
     fn named(name: &str) -> Option<Change> {
         match name {
             "next" => Some(Change::Next),
@@ -132,7 +139,9 @@ impl Change {
     }
 }
 
-/// Returns the results of a function, in place, for each value of an array.
+/// Reads the name of a `Change` and an operand, applies the function to a clone of the operand with
+/// `prim_unary_in_place`, and returns the rows of the result as text. The error is `Case` if no
+/// function has the name.
 pub fn unary_in_place(alloc: Global, store: &Store, words: &mut Words) -> Result<String, Fault>
     requires { HasGoodArrays store.now }
 {
@@ -144,7 +153,8 @@ pub fn unary_in_place(alloc: Global, store: &Store, words: &mut Words) -> Result
     }
 }
 
-/// Returns the results of a function, in place, for each value of an array of one type.
+/// Applies `change` to a clone of the rows `part` of an array with `prim_unary_in_place`, and
+/// returns the rows of the result as text.
 pub fn write_changed<T: PlNumArithmetic + Display>(
     alloc: Global,
     change: Change,
@@ -156,7 +166,7 @@ pub fn write_changed<T: PlNumArithmetic + Display>(
     write_made(alloc, made)
 }
 
-/// A choice between two values.
+/// A choice between a left and a right value.
 #[derive(Clone, Copy)]
 pub enum Choice {
     /// The left one.
@@ -168,6 +178,7 @@ pub enum Choice {
 }
 
 impl Choice {
+    // Returns the choice with this name, or `None` if there is none.
     fn named(name: &str) -> Option<Choice> {
         match name {
             "left" => Some(Choice::Left),
@@ -177,7 +188,7 @@ impl Choice {
         }
     }
 
-    // Returns the chosen value.
+    // Returns `x` as the left value or `y` as the right value, as chosen.
     fn apply<T: NativeType>(self, x: T, y: T) -> T {
         match self {
             Choice::Left => x,
@@ -187,7 +198,9 @@ impl Choice {
     }
 }
 
-/// Returns the values chosen, in place, from the pairs of values of two arrays of one type.
+/// Reads the name of a `Choice` and two operands, chooses a value at each index with
+/// `prim_binary_in_place`, and returns the rows of the result as text. The error is `Case` if no
+/// choice has the name.
 pub fn binary_in_place(alloc: Global, store: &Store, words: &mut Words) -> Result<String, Fault>
     requires { HasGoodArrays store.now }
 {
@@ -200,7 +213,9 @@ pub fn binary_in_place(alloc: Global, store: &Store, words: &mut Words) -> Resul
     }
 }
 
-// Returns the values chosen from two arrays.
+// Chooses a value at each index of two operands of one type of 8 to 128 bits, and returns the rows
+// of the result as text. The error is `Case` if the operands are not of one such type or differ in
+// length.
 fn choose(
     alloc: Global,
     choice: Choice,
@@ -221,7 +236,9 @@ fn choose(
     }
 }
 
-/// Returns the values chosen from two arrays of one type.
+/// Chooses a value at each index of parts of two arrays with `prim_binary_in_place`, and returns
+/// the rows of the result as text. The first part is of `left`, the second of `right`. The error is
+/// `Case` if the parts differ in length.
 pub fn write_chosen<T: NativeType + Display>(
     alloc: Global,
     choice: Choice,

@@ -1,8 +1,12 @@
 //! Recorded cases of arithmetic: operations on arrays of numbers and on single numbers, functions
 //! of stored values, and sums.
 //!
-//! An array is an operand by its name, or as `slice NAME AT N`: its N rows from row AT on. A call
-//! gets a clone of it, which owns its values exactly if the array does.
+//! An operand that is an array is written as its name, or as `slice NAME AT N`: its `N` rows from
+//! row `AT` on. The call gets a clone of it, which owns its values exactly if the array does.
+//!
+//! In all functions that return a `Fault`, it is `Word` if a word is missing or malformed, `Case`
+//! if an array does not exist or the call does not take the operands or the function that the words
+//! name, and `Memory` if an allocation fails.
 #![tactic(auto)]
 
 ghost use Rattle.recorded_text.specs.Cases.{HasGoodArrays};
@@ -25,7 +29,8 @@ use recorded_text::store::Store;
 use recorded_text::words::Words;
 use std::alloc::Global;
 
-/// Returns the result of a call of these subjects, or `None` for any other call.
+/// Makes the call with this name, such as `wrapping_add`, on the operands that it reads from
+/// `words`, and returns its result as text. Returns `None` if no call of arithmetic has the name.
 pub fn answer(
     alloc: Global,
     call: &str,
@@ -40,7 +45,7 @@ pub fn answer(
     }
 }
 
-// Returns the result of a call.
+// Makes a call on the operands that it reads from `words`, and returns its result as text.
 fn ask(alloc: Global, call: Call, store: &Store, words: &mut Words) -> Result<String, Fault>
     requires { HasGoodArrays store.now }
 {

@@ -1,4 +1,4 @@
-//! Arrays and numbers that calls return, as text.
+//! Arrays of numbers and single numbers as text.
 
 use polars_arrays_bits::error::ComputeError;
 use polars_arrays_flat::array::Array;
@@ -9,7 +9,8 @@ use recorded_text::fault::Fault;
 use std::alloc::Global;
 use std::fmt::Display;
 
-/// Returns the rows of the array that a call returned, separated by spaces.
+/// Returns the rows of an array as text, separated by spaces, and drops the array. If `made` is an
+/// error, returns it as a `Fault`.
 pub fn write_made<T: NativeType + Display>(
     alloc: Global,
     made: Result<PrimitiveArray<T>, ComputeError>,
@@ -20,12 +21,12 @@ pub fn write_made<T: NativeType + Display>(
     text
 }
 
-/// Returns a number as text.
+/// Returns a number as text. The error is `Memory`.
 pub fn write_number<T: Copy + Display>(alloc: Global, number: T) -> Result<String, Fault> {
     number.to_string(alloc).map_err(Fault::from)
 }
 
-// Returns the rows of an array of numbers, separated by spaces.
+// Returns the rows of an array as text, separated by spaces: `null` for a null row.
 fn write_rows<T: NativeType + Display>(
     alloc: Global,
     array: &PrimitiveArray<T>,
@@ -40,7 +41,7 @@ fn write_rows<T: NativeType + Display>(
     Ok(text)
 }
 
-// Appends a number, or `null`.
+// Appends `null` to `text` if `is_null` is true, otherwise `value`.
 fn push_row<T: Display>(text: &mut String, value: &T, is_null: bool) -> Result<(), Fault> {
     if is_null {
         text.push_str("null").map_err(Fault::from)

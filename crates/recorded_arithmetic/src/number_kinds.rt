@@ -1,6 +1,7 @@
-//! The kinds of arrays of numbers with arithmetic.
+//! Macros that match arrays of numbers with arithmetic, by their kinds.
 
-/// Calls a function with the array of numbers inside an array. For any other kind it is an error.
+/// Evaluates an expression with `$array` bound to the array of numbers inside `$any`, for numbers
+/// of 8 to 64 bits. The error is `Case` for an array of any other kind.
 macro_rules! of_numbers {
     ($any:expr, $array:ident => $each:expr) => {
         match $any {
@@ -19,8 +20,8 @@ macro_rules! of_numbers {
 
 pub(crate) use of_numbers;
 
-/// Calls a function with the arrays of numbers inside two arrays of one kind. For any other kinds
-/// it is an error.
+/// Evaluates an expression with `$left` and `$right` bound to the arrays of numbers inside `$these`
+/// and `$those`, if both are of the same one of the listed kinds. The error is `Case` otherwise.
 macro_rules! of_one_kind {
     ($these:expr, $those:expr, $left:ident, $right:ident => $each:expr, $($kind:ident)+) => {
         match $these {

@@ -1,4 +1,4 @@
-//! Calls on one array of numbers, and on two.
+//! Calls on one array of numbers, and on two arrays of numbers of one type.
 
 ghost use Rattle.recorded_text.specs.Cases.{HasGoodArrays};
 
@@ -23,23 +23,23 @@ use std::str::FromStr;
 /// A call on an array of numbers.
 #[derive(Clone, Copy)]
 pub enum Asked<'a> {
-    /// A function of it.
+    /// A function of each number of the array.
     Apply(Function),
-    /// An operation on it and the number of a word.
+    /// An operation on each number of the array and the number that the word gives.
     OperateBy(Operation, &'a str),
-    /// An operation on the number of a word and it.
+    /// An operation on the number that the word gives and each number of the array.
     OperateFrom(Operation, &'a str),
-    /// A function of each value.
+    /// A function of each stored value, applied with `prim_unary_in_place`.
     Change(Change),
-    /// The sum of its present rows.
+    /// The sum of the present rows.
     SumRows,
-    /// The sum of its stored values.
+    /// The sum of the stored values.
     SumValues,
-    /// The sum of its stored values whose bit is 1.
+    /// The sum of the stored values with a 1 in the bitmap.
     SumMasked(&'a Bitmap),
 }
 
-/// Returns the result of a call on the array that the next words name.
+/// Reads an operand from the next words, makes the call on it, and returns the result as text.
 pub fn ask_next(
     alloc: Global,
     asked: Asked<'_>,
@@ -51,13 +51,13 @@ pub fn ask_next(
     ask(alloc, asked, read_operand(store, words)?)
 }
 
-/// Returns the result of a call on an array. It is an error if the array is not of numbers of 8 to
-/// 64 bits.
+/// Makes a call on an array, and returns the result as text. The error is `Case` if the array is
+/// not of numbers of 8 to 64 bits; other errors are those of the call.
 pub fn ask(alloc: Global, asked: Asked<'_>, these: Operand<'_>) -> Result<String, Fault> {
     of_numbers!(these.array, array => ask_numbers(alloc, asked, array, these.part))
 }
 
-// Returns the result of a call on an array of numbers of one type.
+// Makes a call on the rows `part` of an array of numbers, and returns the result as text.
 fn ask_numbers<T: HasPrimitiveArithmeticKernel + WrappingSum + Display + FromStr<Err: Drop>>(
     alloc: Global,
     asked: Asked<'_>,
@@ -80,14 +80,15 @@ fn ask_numbers<T: HasPrimitiveArithmeticKernel + WrappingSum + Display + FromStr
 /// A call on two arrays of numbers of one type.
 #[derive(Clone, Copy)]
 pub enum AskedBoth {
-    /// An operation on them.
+    /// An operation on the numbers at each index of both arrays.
     Operate(Operation),
-    /// The values chosen from them.
+    /// A choice between the stored values at each index of both arrays, made with
+    /// `prim_binary_in_place`.
     Choose(Choice),
 }
 
-/// Returns the result of a call on two arrays. It is an error if they are not of numbers of one
-/// type of 8 to 64 bits.
+/// Makes a call on two arrays, and returns the result as text. The error is `Case` if the arrays
+/// are not of numbers of one type of 8 to 64 bits; other errors are those of the call.
 pub fn ask_both(
     alloc: Global,
     asked: AskedBoth,
@@ -100,7 +101,8 @@ pub fn ask_both(
         Int8 Int16 Int32 Int64 UInt8 UInt16 UInt32 UInt64)
 }
 
-// Returns the result of a call on two arrays of numbers of one type.
+// Makes a call on rows of two arrays: the first part is of `left`, the second of `right`. Returns
+// the result as text.
 fn ask_pair<T: HasPrimitiveArithmeticKernel + Display>(
     alloc: Global,
     asked: AskedBoth,

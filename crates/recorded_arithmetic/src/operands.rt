@@ -1,5 +1,5 @@
-//! Arrays and numbers as operands. The store lends an array, and a call gets a clone of some of its
-//! rows.
+//! Operands of calls: arrays of the store, or some of their rows, and numbers. A call gets a clone
+//! of the array or of the rows.
 
 ghost use Rattle.std.specs.Prelude.{◌≡◌, ◌+◌, ◌≤◌, IfOk, IfSome, length};
 ghost use Rattle.recorded_text.specs.Cases.{HasGoodArrays};
@@ -17,15 +17,15 @@ use std::str::FromStr;
 /// Some rows of an array.
 #[derive(Clone, Copy)]
 pub enum Part {
-    /// All of them.
+    /// All rows.
     Whole,
     /// `n` rows from row `at` on.
     Slice { at: usize, n: usize },
 }
 
 impl Part {
-    // Returns the first row and the number of rows, or `None` for all rows. The error is `Case`, if
-    // there are too few rows.
+    // Returns the first row and the number of rows of this part of an array of `len` rows, or
+    // `None` for all rows. The error is `Case` if the array does not have the rows.
     fn window(self, len: usize) -> Result<Option<(usize, usize)>, Fault>
         ensures { IfOk result (λ window. IfSome window (λ rows. rows.0 + rows.1 ≤ len)) }
     {
@@ -37,14 +37,16 @@ impl Part {
     }
 }
 
-/// An array of the store, and some of its rows.
+/// An array of the store, and the part of its rows that the call takes.
 #[derive(Clone, Copy)]
 pub struct Operand<'a> {
     pub array: &'a AnyArray,
     pub part: Part,
 }
 
-/// Reads an array by name, or after the word `slice` some of its rows.
+/// Reads an operand: the name of an array, for all of its rows, or the word `slice`, a name, the
+/// first row and the number of rows. Doesn't check whether the array has these rows. The error is
+/// `Word` if a word is missing or is no number, and `Case` if no array has the name.
 pub fn read_operand<'a>(store: &'a Store, words: &mut Words) -> Result<Operand<'a>, Fault>
     requires { HasGoodArrays store.now }
 {
@@ -60,8 +62,9 @@ pub fn read_operand<'a>(store: &'a Store, words: &mut Words) -> Result<Operand<'
     Ok(Operand { array, part })
 }
 
-/// Clones some rows of an array. The clone owns its values exactly if the array does. The error is
-/// `Case`, if the array does not have the rows.
+/// Returns a clone of the rows `part` of an array. The clone owns its values exactly if the array
+/// does. The error is `Case` if the array does not have the rows, and `Memory` if an allocation
+/// fails.
 pub fn clone_part<T: NativeType>(
     alloc: Global,
     array: &PrimitiveArray<T>,
@@ -75,7 +78,9 @@ pub fn clone_part<T: NativeType>(
     Ok(copy)
 }
 
-/// Clones some rows of two arrays. Both must have the same number of rows.
+/// Returns clones of some rows of `left` and of `right`: the first part is of `left`, the second of
+/// `right`. The error is `Case` if an array does not have its rows or if the parts differ in
+/// length, and `Memory` if an allocation fails.
 pub fn clone_parts<L: NativeType, R: NativeType>(
     alloc: Global,
     left: &PrimitiveArray<L>,
@@ -94,7 +99,7 @@ pub fn clone_parts<L: NativeType, R: NativeType>(
     }
 }
 
-// Returns two arrays, which must have equal lengths.
+// Returns both arrays. If their lengths differ, drops them; the error is then `Case`.
 fn pair<L: NativeType, R: NativeType>(
     left: PrimitiveArray<L>,
     right: PrimitiveArray<R>,
@@ -109,7 +114,7 @@ fn pair<L: NativeType, R: NativeType>(
     Err(Fault::Case)
 }
 
-/// Reads a number from a word.
+/// Converts a word to a number. The error is `Word` if it is no number of the type `N`.
 pub fn number_of<N: FromStr<Err: Drop>>(word: &str) -> Result<N, Fault> {
     match word.parse() {
         Ok(number) => Ok(number),

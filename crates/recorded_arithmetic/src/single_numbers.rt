@@ -1,8 +1,9 @@
 //! Operations on single numbers of a type of 8 to 64 bits.
 //!
-//! - `pl_num wrapping_abs TYPE NUMBER`, and so of `wrapping_neg`: the function's result
-//! - `pl_num wrapping_add TYPE NUMBER NUMBER`, and so of `sub`, `mul`, `floor_div`, `trunc_div`,
-//!   `mod` and `legacy_div`: the operation's result, which is 0 for a quotient by 0 and its modulus
+//! - `pl_num wrapping_abs TYPE NUMBER` and `pl_num wrapping_neg TYPE NUMBER`: the function's result
+//! - `pl_num wrapping_add TYPE NUMBER NUMBER`, and in the same form `wrapping_sub`, `wrapping_mul`,
+//!   `wrapping_floor_div`, `wrapping_trunc_div`, `wrapping_mod` and `legacy_div`: the operation's
+//!   result. A division by 0 gives 0, as a quotient and as a modulus
 //! - `wrapping_add_number TYPE NUMBER NUMBER`: the sum of two numbers, also of the types `isize`
 //!   and `usize`
 
@@ -17,7 +18,8 @@ use std::alloc::Global;
 use std::fmt::Display;
 use std::str::FromStr;
 
-// A call with numbers of one type.
+// A calculation with numbers of one type: a function of a number, an operation on two numbers, or
+// the sum of two numbers with `WrappingAdd`.
 #[derive(Clone, Copy)]
 enum Asked {
     Apply(Function),
@@ -25,7 +27,7 @@ enum Asked {
     Add,
 }
 
-// The functions and the operations by name.
+// The functions of one number and the operations on two numbers, by name.
 const CALCULATIONS: [(&str, Asked); 9] = [
     ("wrapping_abs", Asked::Apply(Function::Abs)),
     ("wrapping_neg", Asked::Apply(Function::Neg)),
@@ -38,13 +40,15 @@ const CALCULATIONS: [(&str, Asked); 9] = [
     ("legacy_div", Asked::Operate(Operation::LegacyDiv)),
 ];
 
-/// Returns the result of the function or the operation that the next word names.
+/// Reads the name of a function or an operation, the name of a type and the numbers, and returns
+/// the result as text. The error is `Word` if a word is missing or wrong.
 pub fn calculate(alloc: Global, words: &mut Words) -> Result<String, Fault> {
     let asked = find_word(&CALCULATIONS, words.read()?)?;
     ask(alloc, asked, words.read()?, words)
 }
 
-/// Returns the sum of two numbers of the type that the next word names.
+/// Reads the name of a type and two numbers, and returns their sum as text. The error is `Word` if
+/// a word is missing or wrong.
 pub fn add(alloc: Global, words: &mut Words) -> Result<String, Fault> {
     match words.read()? {
         "isize" => add_two::<isize>(alloc, words),
@@ -53,7 +57,9 @@ pub fn add(alloc: Global, words: &mut Words) -> Result<String, Fault> {
     }
 }
 
-// Returns the result of a call with numbers of a type, given by name.
+// Returns the result of `asked` for the numbers of the next words, as text. `name` is the name of
+// their type. The error is `Word` if `name` names no type of 8 to 64 bits, or if a word is missing
+// or is no number of the type.
 fn ask(alloc: Global, asked: Asked, name: &str, words: &mut Words) -> Result<String, Fault> {
     match name {
         "i8" => ask_type::<i8>(alloc, asked, words),
@@ -68,7 +74,8 @@ fn ask(alloc: Global, asked: Asked, name: &str, words: &mut Words) -> Result<Str
     }
 }
 
-// Returns the result of a call with numbers of one type.
+// Returns the result of `asked` for the numbers of the next words, which are of the type `T`, as
+// text.
 fn ask_type<T: PlNumArithmetic + Display + FromStr<Err: Drop>>(
     alloc: Global,
     asked: Asked,
@@ -81,7 +88,7 @@ fn ask_type<T: PlNumArithmetic + Display + FromStr<Err: Drop>>(
     }
 }
 
-// Returns the result of a function for the number of the next word.
+// Reads a number from the next word, and returns the function's result for it as text.
 fn write_applied<T: PlNumArithmetic + Display + FromStr<Err: Drop>>(
     alloc: Global,
     function: Function,
@@ -91,7 +98,7 @@ fn write_applied<T: PlNumArithmetic + Display + FromStr<Err: Drop>>(
     write_number(alloc, apply(function, number))
 }
 
-// Returns the result of a function for a number.
+// Returns the function's result for a number.
 fn apply<T: PlNumArithmetic>(function: Function, number: T) -> T {
     match function {
         Function::Abs => PlNumArithmetic::wrapping_abs(number),
@@ -99,7 +106,7 @@ fn apply<T: PlNumArithmetic>(function: Function, number: T) -> T {
     }
 }
 
-// Returns the result of an operation for the two numbers of the next words.
+// Reads two numbers from the next words, and returns the operation's result for them as text.
 fn write_operated<T: PlNumArithmetic + Display + FromStr<Err: Drop>>(
     alloc: Global,
     operation: Operation,
@@ -109,7 +116,7 @@ fn write_operated<T: PlNumArithmetic + Display + FromStr<Err: Drop>>(
     write_number(alloc, operate(operation, left, right))
 }
 
-// Returns the result of an operation for two numbers.
+// Returns the operation's result for two numbers.
 fn operate<T: PlNumArithmetic>(operation: Operation, left: T, right: T) -> T {
     match operation {
         Operation::Add => PlNumArithmetic::wrapping_add(left, right),
@@ -122,7 +129,7 @@ fn operate<T: PlNumArithmetic>(operation: Operation, left: T, right: T) -> T {
     }
 }
 
-// Returns the sum of two numbers.
+// Reads two numbers from the next words, and returns their sum as text.
 fn add_two<T: WrappingAdd + Copy + Display + FromStr<Err: Drop>>(
     alloc: Global,
     words: &mut Words,

@@ -1,8 +1,8 @@
-//! Sums of numbers of a type of 8 to 64 bits.
+//! Wrapping sums of numbers of a type of 8 to 64 bits.
 //!
-//! - `wrapping_sum_arr A`: the sum of the present rows
-//! - `wrapping_sum A`: the sum of the stored values
-//! - `wrapping_sum_with_validity A BITS`: the sum of the stored values whose bit is 1
+//! - `wrapping_sum_arr A`: the sum of the present rows of an array
+//! - `wrapping_sum A`: the sum of the stored values, also those of null rows
+//! - `wrapping_sum_with_validity A BITS`: the sum of the stored values with a 1 in the bits
 
 ghost use Rattle.recorded_text.specs.Cases.{HasGoodArrays};
 
@@ -20,7 +20,8 @@ use recorded_text::words::Words;
 use std::alloc::Global;
 use std::fmt::Display;
 
-/// Returns the sum of the stored values of an array whose bit is 1.
+/// Reads an operand and bits from the next words, and returns the sum of the stored values with a 1
+/// in the bits, as text.
 pub fn of_masked_values(alloc: Global, store: &Store, words: &mut Words) -> Result<String, Fault>
     requires { HasGoodArrays store.now }
 {
@@ -31,7 +32,7 @@ pub fn of_masked_values(alloc: Global, store: &Store, words: &mut Words) -> Resu
     text
 }
 
-/// Returns the sum of the present rows of an array of one type.
+/// Returns the sum of the present rows among the rows `part` of an array, as text.
 pub fn add_rows<T: WrappingSum + Display>(
     alloc: Global,
     array: &PrimitiveArray<T>,
@@ -43,7 +44,7 @@ pub fn add_rows<T: WrappingSum + Display>(
     write_number(alloc, sum)
 }
 
-/// Returns the sum of the stored values of an array of one type.
+/// Returns the sum of the stored values of the rows `part` of an array, as text.
 pub fn add_values<T: WrappingSum + Display>(
     alloc: Global,
     array: &PrimitiveArray<T>,
@@ -55,7 +56,8 @@ pub fn add_values<T: WrappingSum + Display>(
     write_number(alloc, sum)
 }
 
-/// Returns the sum of the stored values of an array of one type whose bit is 1.
+/// Returns the sum of the stored values of the rows `part` of an array with a 1 in `bits`, as text.
+/// The error is `Case` if the number of bits is not the number of rows of the part.
 pub fn add_masked<T: WrappingSum + Display>(
     alloc: Global,
     array: &PrimitiveArray<T>,
@@ -68,7 +70,8 @@ pub fn add_masked<T: WrappingSum + Display>(
     text
 }
 
-// Returns the sum of the numbers whose bit is 1. There must be a bit for each number.
+// Returns the sum of the values with a 1 in `bits`, as text. The error is `Case` if the number of
+// bits is not the number of values.
 fn add_where_set<T: WrappingSum + Display>(
     alloc: Global,
     values: &[T],

@@ -9,18 +9,19 @@ use recorded_text::bits_text::write_made_mask;
 use recorded_text::fault::Fault;
 use std::alloc::Global;
 
-/// A call on an array.
+/// A method of the trait `Array`.
 #[derive(Clone, Copy)]
 pub enum Asked {
     /// The number of rows.
     Len,
     /// The number of null rows.
     NullCount,
-    /// The mask.
+    /// The mask of all rows.
     MissingMask,
 }
 
-/// Returns the result of a call on the array inside an array of any kind.
+/// Calls the method `asked` on the array that `array` holds in its variant, and returns the result
+/// as text.
 pub fn ask(alloc: Global, asked: Asked, array: &AnyArray) -> Result<String, Fault>
     requires { IsGood array.now }
 {
@@ -51,7 +52,7 @@ pub fn ask(alloc: Global, asked: Asked, array: &AnyArray) -> Result<String, Faul
     }
 }
 
-// Returns the result of a call on an array of one kind.
+// Calls the method `asked` on `array`, and returns the result as text.
 fn ask_kind<A: Array>(alloc: Global, asked: Asked, array: &A) -> Result<String, Fault>
     requires { A.good array.now }
 {

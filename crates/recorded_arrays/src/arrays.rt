@@ -1,4 +1,5 @@
-//! Arrays of any kind: their rows, those of clones and slices, and the number of their leaf slots.
+//! Arrays of any kind: the rows of an array, of a clone and of a slice, and the number of leaf
+//! slots.
 
 ghost use Rattle.polars_arrays_nested.specs.GoodParts.{IsGood};
 
@@ -10,7 +11,7 @@ use recorded_text::row_text::{write_made, write_rows};
 use recorded_text::words::Words;
 use std::alloc::Global;
 
-/// A call on an array.
+/// A call that returns the rows of an array, of a clone, or of a slice of a clone.
 #[derive(Clone, Copy)]
 pub enum Asked {
     Rows,
@@ -18,7 +19,8 @@ pub enum Asked {
     Slice,
 }
 
-/// Returns the result of a call on an array.
+/// Returns as text the rows of `array`, of a clone, or of a slice of a clone, depending on `asked`.
+/// Reads the window of a slice from `words`.
 pub fn ask(
     alloc: Global,
     asked: Asked,
@@ -34,14 +36,15 @@ pub fn ask(
     }
 }
 
-// Returns the rows of a clone of an array.
+// Returns the rows of a clone of `array` as text.
 fn write_copy(alloc: Global, array: &AnyArray) -> Result<String, Fault>
     requires { IsGood array.now }
 {
     write_made(alloc, array.clone_array(alloc)?)
 }
 
-// Returns the rows of a slice of a clone of an array.
+// Reads a window from the next two words, slices a clone of `array` to this window, and returns the
+// rows of the slice as text. Returns the error `Case` if the window is out of range.
 fn write_slice(alloc: Global, array: &AnyArray, words: &mut Words) -> Result<String, Fault>
     requires { IsGood array.now }
 {
@@ -51,7 +54,7 @@ fn write_slice(alloc: Global, array: &AnyArray, words: &mut Words) -> Result<Str
     write_made(alloc, copy)
 }
 
-/// Returns the number of leaf slots of each of two arrays.
+/// Returns the number of leaf slots of `left`, a space, and the number of leaf slots of `right`.
 pub fn write_leaves(alloc: Global, left: &AnyArray, right: &AnyArray) -> Result<String, Fault>
     requires left { IsGood left.now }
     requires right { IsGood right.now }

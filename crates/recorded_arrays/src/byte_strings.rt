@@ -15,7 +15,8 @@ pub enum ByteTest {
     Less,
 }
 
-/// Returns whether a comparison of two byte strings holds.
+/// Reads two byte strings from the next two words, and returns the text `true` if `comparison`
+/// holds for them, otherwise `false`.
 pub fn compare(alloc: Global, comparison: ByteTest, words: &mut Words) -> Result<String, Fault> {
     let (left, right) = (words.read()?, words.read()?);
     let left = read_bytes(alloc, left)?;
@@ -24,7 +25,7 @@ pub fn compare(alloc: Global, comparison: ByteTest, words: &mut Words) -> Result
     write_value(alloc, holds)
 }
 
-// Returns whether a comparison holds.
+// Returns whether `comparison` holds for `left` and `right`.
 fn is_told(comparison: ByteTest, left: &[u8], right: &[u8]) -> bool {
     match comparison {
         ByteTest::Equal => bytes_equal(left, right),
@@ -32,7 +33,8 @@ fn is_told(comparison: ByteTest, left: &[u8], right: &[u8]) -> bool {
     }
 }
 
-/// Returns whether a pair of numbers is less. The second number of each is a length.
+/// Reads `p`, `q`, `n` and `m` from the next four words, and returns the text `true` if the pair
+/// `(p, n)` is less than `(q, m)`, otherwise `false`. `n` and `m` are lengths.
 pub fn less_pair(alloc: Global, words: &mut Words) -> Result<String, Fault> {
     let (p, q) = (words.read_number()?, words.read_number()?);
     let (n, m) = (words.read_number()?, words.read_number()?);

@@ -1,4 +1,4 @@
-//! The calls by name.
+//! The calls of this crate, and their names.
 
 use crate::types::{NamedComparison, Strings};
 use crate::{
@@ -6,30 +6,32 @@ use crate::{
 };
 use recorded_text::names::find;
 
-/// A call.
+/// A call of this crate, without the arguments, which are read from words.
 #[derive(Clone, Copy)]
 pub enum Call {
-    /// A call on the array that the next word names.
+    /// A call on one array. The next word names the array.
     One(OfOne),
-    /// A call on the two arrays that the next words name.
+    /// A call on two arrays. The next two words name the arrays.
     Two(OfTwo),
-    /// Structs of fields and columns.
+    /// A call of `StructArray::try_new`.
     StructOfParts,
-    /// A call on the type of numbers that the next word names.
+    /// A call on a type of numbers. The next word names the type.
     NumberType(number_types::Asked),
-    /// The type of an array of strings between offsets.
+    /// The type of an array of byte strings, or of texts. The next word names the type of the
+    /// offsets.
     StringsType(Strings),
-    /// A comparison of two byte strings.
+    /// A comparison of two byte strings. The next two words are the byte strings.
     Bytes(byte_strings::ByteTest),
-    /// A comparison of two pairs of numbers.
+    /// A call of `pair_less`, which compares two pairs of numbers.
     PairLess,
-    /// A call on the view whose bytes are the next word.
+    /// A call on a view. The next word has the bytes of the view.
     View(views::Asked),
-    /// The view of a short row.
+    /// A call of `View::of_short` on the byte string of the next word.
     ViewOfShort,
 }
 
-/// A call on one array.
+/// A call on one array. `Type` returns the type of the array, and `TypeCopy` a clone of the type.
+/// Each other variant holds a call of one module.
 #[derive(Clone, Copy)]
 pub enum OfOne {
     Array(arrays::Asked),
@@ -41,7 +43,8 @@ pub enum OfOne {
     TypeCopy,
 }
 
-/// A call on two arrays.
+/// A call on two arrays. `Leaves` returns the numbers of leaf slots, and `Types` compares the
+/// types.
 #[derive(Clone, Copy)]
 pub enum OfTwo {
     Leaves,
@@ -49,13 +52,13 @@ pub enum OfTwo {
 }
 
 impl Call {
-    /// Returns the call of a name, or `None` for a call of another subject.
+    /// Returns the call named `name`, or `None` if this crate has no such call.
     pub fn named(name: &str) -> Option<Call> {
         find(&CALLS, name)
     }
 }
 
-// The calls by name.
+// The names of all calls, each with the call.
 const CALLS: [(&str, Call); 66] = [
     ("rows", Call::One(OfOne::Array(arrays::Asked::Rows))),
     ("copy", Call::One(OfOne::Array(arrays::Asked::Copy))),

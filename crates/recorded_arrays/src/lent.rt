@@ -1,5 +1,5 @@
-//! Parts that arrays lend: lengths and counts of nulls, validities, stored values, offsets, views
-//! and buffers, keys, and the arrays that they hold.
+//! Parts and numbers of an array: its length, number of nulls, validity, stored values, offsets,
+//! views, buffers and keys, and the arrays inside a nested array.
 
 ghost use Rattle.polars_arrays_nested.specs.GoodParts.{IsGood};
 ghost use Rattle.polars_arrays_nested.specs.declared.any_array.AnyArray.{List, Struct, Dictionary};
@@ -21,7 +21,8 @@ use recorded_text::type_text::key_name;
 use recorded_text::words::Words;
 use std::alloc::Global;
 
-/// A call on an array.
+/// A call that returns a part of an array, or a number such as the length. `ask` shows the function
+/// for each variant.
 #[derive(Clone, Copy)]
 pub enum Asked {
     Len,
@@ -39,7 +40,8 @@ pub enum Asked {
     Size,
 }
 
-/// Returns a part that an array lends.
+/// Returns as text the part or number of `array` that `asked` names. `KeyValue` and `Column` read
+/// an index from the next word.
 pub fn ask(
     alloc: Global,
     asked: Asked,
@@ -65,7 +67,7 @@ pub fn ask(
     }
 }
 
-// Returns the validity.
+// Returns the bits of the validity of `array` as text, or `none` if the array stores no validity.
 fn validity(alloc: Global, array: &AnyArray) -> Result<String, Fault>
     requires { IsGood array.now }
 {
@@ -75,8 +77,9 @@ fn validity(alloc: Global, array: &AnyArray) -> Result<String, Fault>
     }
 }
 
-// Returns the stored values, including those of null rows and of no row; for arrays that hold an
-// array, its rows.
+// Returns the stored values of `array` as text, including those of null rows and those that no row
+// uses. If the array holds other arrays, returns the rows of these. Returns the error `Case` for an
+// array of texts or of views, and for a `Null` array.
 fn values(alloc: Global, array: &AnyArray, words: &mut Words) -> Result<String, Fault>
     requires { IsGood array.now }
 {
@@ -93,7 +96,7 @@ fn values(alloc: Global, array: &AnyArray, words: &mut Words) -> Result<String, 
     }
 }
 
-// Returns the rows of each column of structs, separated by bars.
+// Returns the rows of each column of `array` as text, with ` | ` between two columns.
 fn columns(alloc: Global, array: &StructArray) -> Result<String, Fault>
     requires { IsGood (Struct array.now) }
 {
@@ -107,7 +110,8 @@ fn columns(alloc: Global, array: &StructArray) -> Result<String, Fault>
     Ok(text)
 }
 
-// Returns the rows of the column of structs whose index is the next word.
+// Returns the rows of column `k` of an array of structs as text. If `k` is an error, returns it.
+// Returns the error `Case` for an array of another kind, or if there is no column `k`.
 fn column(alloc: Global, array: &AnyArray, k: Result<usize, Fault>) -> Result<String, Fault>
     requires { IsGood array.now }
 {
@@ -118,7 +122,7 @@ fn column(alloc: Global, array: &AnyArray, k: Result<usize, Fault>) -> Result<St
     }
 }
 
-// Returns the offsets of byte strings, of texts or of lists.
+// Returns the offsets of `array` as text. Returns the error `Case` if the array has no offsets.
 fn offsets(alloc: Global, array: &AnyArray) -> Result<String, Fault>
     requires { IsGood array.now }
 {
@@ -132,7 +136,8 @@ fn offsets(alloc: Global, array: &AnyArray) -> Result<String, Fault>
     }
 }
 
-// Returns the offsets of lists, and whether they have 64 bits.
+// Returns the offsets of `array` as text, then `large` if the offsets have 64 bits, otherwise
+// `small`.
 fn list_offsets(alloc: Global, array: &ListArray) -> Result<String, Fault>
     requires { IsGood (List array.now) }
 {
@@ -147,7 +152,7 @@ fn list_offsets(alloc: Global, array: &ListArray) -> Result<String, Fault>
     Ok(text)
 }
 
-// Returns the views of byte strings or of texts.
+// Returns the views of `array` as text. Returns the error `Case` if the array has no views.
 fn views(alloc: Global, array: &AnyArray) -> Result<String, Fault> {
     match array {
         AnyArray::BinaryView(array) => write_views(alloc, array.views()),
@@ -156,7 +161,7 @@ fn views(alloc: Global, array: &AnyArray) -> Result<String, Fault> {
     }
 }
 
-// Returns the sixteen bytes of each view.
+// Returns the sixteen bytes of each view as text, with a space between two views.
 fn write_views(alloc: Global, views: &[View]) -> Result<String, Fault> {
     let mut text = String::new(alloc);
     for (i, view) in views.iter().enumerate() {
@@ -168,7 +173,8 @@ fn write_views(alloc: Global, views: &[View]) -> Result<String, Fault> {
     Ok(text)
 }
 
-// Returns the buffers of byte strings or of texts.
+// Returns the buffers of an array of views as text. Returns the error `Case` for an array of
+// another kind.
 fn buffers(alloc: Global, array: &AnyArray) -> Result<String, Fault> {
     match array {
         AnyArray::BinaryView(array) => write_buffers(alloc, array),
@@ -177,7 +183,7 @@ fn buffers(alloc: Global, array: &AnyArray) -> Result<String, Fault> {
     }
 }
 
-// Returns the bytes of each buffer.
+// Returns the bytes of each buffer of `array` as text, with a space between two buffers.
 fn write_buffers(alloc: Global, array: &BinaryViewArray) -> Result<String, Fault> {
     let mut text = String::new(alloc);
     for (i, buffer) in array.buffers().iter().enumerate() {
@@ -189,8 +195,9 @@ fn write_buffers(alloc: Global, array: &BinaryViewArray) -> Result<String, Fault
     Ok(text)
 }
 
-// Returns the keys of a dictionary array, including those of null rows, their type, and the number
-// of nulls.
+// Returns the keys of a dictionary array as text, including those of masked rows, with 0 in place
+// of a negative key. Then appends the type of the keys and the number of masked keys. Returns the
+// error `Case` for an array of another kind.
 fn keys(alloc: Global, array: &AnyArray) -> Result<String, Fault> {
     let AnyArray::Dictionary(array) = array else {
         return Err(Fault::Case);
@@ -205,7 +212,9 @@ fn keys(alloc: Global, array: &AnyArray) -> Result<String, Fault> {
     Ok(text)
 }
 
-// Returns the index of the entry of the row of a dictionary array whose index is the next word.
+// Returns as text the index of the entry to which key `i` of a dictionary array refers. If `i` is
+// an error, returns it. Returns the error `Case` for an array of another kind, or if key `i` is
+// masked or does not exist.
 fn key_value(alloc: Global, array: &AnyArray, i: Result<usize, Fault>) -> Result<String, Fault>
     requires { IsGood array.now }
 {
@@ -216,7 +225,8 @@ fn key_value(alloc: Global, array: &AnyArray, i: Result<usize, Fault>) -> Result
     }
 }
 
-// Returns the index of the entry of row `i`, if it is present.
+// Returns as text the index of the entry to which key `i` of `array` refers. Returns the error
+// `Case` if key `i` is masked or does not exist.
 fn entry_of(alloc: Global, array: &DictionaryArray, i: usize) -> Result<String, Fault>
     requires { IsGood (Dictionary array.now) }
 {
@@ -227,7 +237,8 @@ fn entry_of(alloc: Global, array: &DictionaryArray, i: usize) -> Result<String, 
     write_value(alloc, array.key_value(i))
 }
 
-// Returns the number of lists of one width or of structs.
+// Returns the number of rows of an array of fixed-size lists or of structs as text. Returns the
+// error `Case` for an array of another kind.
 fn count(alloc: Global, array: &AnyArray) -> Result<String, Fault> {
     match array {
         AnyArray::FixedSizeList(array) => write_value(alloc, array.len()),
@@ -236,7 +247,8 @@ fn count(alloc: Global, array: &AnyArray) -> Result<String, Fault> {
     }
 }
 
-// Returns the number of items of each list.
+// Returns the number of items of each list of a fixed-size list array as text. Returns the error
+// `Case` for an array of another kind.
 fn width(alloc: Global, array: &AnyArray) -> Result<String, Fault> {
     match array {
         AnyArray::FixedSizeList(array) => write_value(alloc, array.width()),
@@ -244,7 +256,8 @@ fn width(alloc: Global, array: &AnyArray) -> Result<String, Fault> {
     }
 }
 
-// Returns the number of bytes of each string.
+// Returns the number of bytes of each row of a fixed-size binary array as text. Returns the error
+// `Case` for an array of another kind.
 fn size(alloc: Global, array: &AnyArray) -> Result<String, Fault> {
     match array {
         AnyArray::FixedSizeBinary(array) => write_value(alloc, array.size()),

@@ -1,5 +1,8 @@
 //! Recorded cases of arrays: constructors, slices, clones and sharing, borrowed parts, null rows,
 //! and types.
+//!
+//! A function that reads words may return the error `Word`, and one that allocates may return
+//! `Memory`. Comments on functions say when another error is returned.
 #![tactic(auto)]
 
 ghost use Rattle.polars_arrays_nested.specs.GoodParts.{IsGood};
@@ -27,7 +30,8 @@ use recorded_text::store::Store;
 use recorded_text::words::Words;
 use std::alloc::Global;
 
-/// Returns the result of a call of these subjects, or `None` for any other call.
+/// Reads the arguments of the call named `call` from `words`, and returns its result as text, or
+/// `None` if this crate has no such call. Arrays are named in `words` and found in `store`.
 pub fn answer(
     alloc: Global,
     call: &str,
@@ -42,7 +46,8 @@ pub fn answer(
     }
 }
 
-// Returns the result of a call.
+// Reads the arguments of `call` from `words`, and returns its result as text. Arrays are named in
+// `words` and found in `store`.
 fn ask(alloc: Global, call: Call, store: &Store, words: &mut Words) -> Result<String, Fault>
     requires { HasGoodArrays store.now }
 {
@@ -59,14 +64,16 @@ fn ask(alloc: Global, call: Call, store: &Store, words: &mut Words) -> Result<St
     }
 }
 
-// Returns the result of a call on the array that the next word names.
+// Reads the name of an array of `store` from the next word, and returns the result of `asked` on
+// this array as text. Reads other arguments from the words after the name. Returns the error `Case`
+// if `store` has no array of that name.
 fn ask_next(alloc: Global, asked: OfOne, store: &Store, words: &mut Words) -> Result<String, Fault>
     requires { HasGoodArrays store.now }
 {
     ask_one(alloc, asked, store.read(words)?, words)
 }
 
-// Returns the result of a call on an array.
+// Returns the result of `asked` on `array` as text. Reads other arguments from `words`.
 fn ask_one(
     alloc: Global,
     asked: OfOne,
@@ -86,7 +93,9 @@ fn ask_one(
     }
 }
 
-// Returns the result of a call on the two arrays that the next words name.
+// Reads the names of two arrays of `store` from the next two words, and returns the result of
+// `asked` on these arrays as text. Returns the error `Case` if `store` has no array of one of the
+// names.
 fn ask_next_two(
     alloc: Global,
     asked: OfTwo,

@@ -1,7 +1,7 @@
 //! Null rows of an array, one by one and as masks.
 //!
-//! A mask is written as its bits, 1 if a row is present, or as `none`, if no row is masked and
-//! there are no bits.
+//! A mask is written as its bits, with 1 for each present row, or as `none` if the mask has no
+//! bits.
 
 ghost use Rattle.polars_arrays_nested.specs.GoodParts.{IsGood};
 ghost use Rattle.polars_arrays_nested.specs.declared.any_array.AnyArray.{Dictionary};
@@ -16,7 +16,9 @@ use recorded_text::fault::Fault;
 use recorded_text::words::Words;
 use std::alloc::Global;
 
-/// A call on an array.
+/// A call of a method about null rows. `IsNullKey` calls `is_null_row` of `DictionaryArray`,
+/// `MaskOfKind` calls `missing_mask` of the trait `Array`, and the others call methods of
+/// `AnyArray`.
 #[derive(Clone, Copy)]
 pub enum Asked {
     IsNullRow,
@@ -27,7 +29,8 @@ pub enum Asked {
     WindowMask,
 }
 
-/// Returns the result of a call on an array.
+/// Returns the result of `asked` on `array` as text. Reads the index of a row, or a window, from
+/// `words` if the call needs one.
 pub fn ask(
     alloc: Global,
     asked: Asked,
@@ -46,7 +49,8 @@ pub fn ask(
     }
 }
 
-// Returns whether row `i` is null.
+// Returns the text `true` if row `i` of `array` is null, otherwise `false`. If `i` is an error,
+// returns it. Returns the error `Case` if there is no row `i`.
 fn is_null_row(alloc: Global, array: &AnyArray, i: Result<usize, Fault>) -> Result<String, Fault>
     requires { IsGood array.now }
 {
@@ -57,7 +61,9 @@ fn is_null_row(alloc: Global, array: &AnyArray, i: Result<usize, Fault>) -> Resu
     write_value(alloc, array.is_null_row(i))
 }
 
-// Returns whether row `i` is null, by the call of dictionary arrays.
+// Returns the text `true` if row `i` of a dictionary array is null, otherwise `false`. If `i` is an
+// error, returns it. Returns the error `Case` for an array of another kind, or if there is no row
+// `i`.
 fn is_null_key(alloc: Global, array: &AnyArray, i: Result<usize, Fault>) -> Result<String, Fault>
     requires { IsGood array.now }
 {
@@ -68,7 +74,8 @@ fn is_null_key(alloc: Global, array: &AnyArray, i: Result<usize, Fault>) -> Resu
     }
 }
 
-// Returns whether row `i` of a dictionary array is null.
+// Returns the text `true` if row `i` of `array` is null, otherwise `false`. Returns the error
+// `Case` if there is no row `i`.
 fn names_null(alloc: Global, array: &DictionaryArray, i: usize) -> Result<String, Fault>
     requires { IsGood (Dictionary array.now) }
 {
@@ -78,7 +85,8 @@ fn names_null(alloc: Global, array: &DictionaryArray, i: usize) -> Result<String
     write_value(alloc, array.is_null_row(i))
 }
 
-// Returns the mask of some rows.
+// Reads a window from the next two words, and returns the mask of these rows of `array` as text.
+// Returns the error `Case` if the window is out of range.
 fn window_mask(alloc: Global, array: &AnyArray, words: &mut Words) -> Result<String, Fault>
     requires { IsGood array.now }
 {

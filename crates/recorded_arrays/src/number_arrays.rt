@@ -1,7 +1,7 @@
 //! Arrays of numbers: their stored values, writing and sharing these, and replacing the validity.
 //!
-//! The result of a change is the changed array: its rows, its stored values, and whether it owns
-//! them.
+//! An array is written as its rows, its stored values, the number of null rows, and `owned` if the
+//! array owns its stored values, otherwise `shared`.
 
 ghost use Rattle.std.specs.Prelude.{IfOk};
 ghost use Rattle.polars_arrays_flat.specs.Validity.{HasBits};
@@ -22,7 +22,7 @@ use std::alloc::Global;
 use std::fmt::Display;
 use std::str::FromStr;
 
-/// A call on an array of numbers, or a change of a clone of it.
+/// A call of a method of `PrimitiveArray`. A method that changes the array is called on a clone.
 #[derive(Clone, Copy)]
 pub enum Asked {
     IsOwned,
@@ -35,7 +35,8 @@ pub enum Asked {
     AsMutValues,
 }
 
-/// Returns the result of a call on an array of numbers. It is an error for any other array.
+/// Returns the result of `asked` on an array of numbers as text. Reads the arguments of the call
+/// from `words`. Returns the error `Case` for an array of another kind.
 pub fn ask(
     alloc: Global,
     asked: Asked,
@@ -57,7 +58,7 @@ pub fn ask(
     }
 }
 
-// Returns the result of a call on an array of one type of numbers.
+// Returns the result of `asked` on `array` as text. Reads the arguments of the call from `words`.
 fn ask_numbers<T: NativeType + Display + FromStr<Err: Drop>>(
     alloc: Global,
     asked: Asked,
@@ -76,7 +77,8 @@ fn ask_numbers<T: NativeType + Display + FromStr<Err: Drop>>(
     }
 }
 
-// Returns an array of numbers as text: its rows, its stored values, and whether it owns them.
+// Returns the text of `array`: its rows, its stored values, the number of null rows, and `owned` or
+// `shared`.
 fn write_array<T: NativeType + Display>(
     alloc: Global,
     array: &PrimitiveArray<T>,
@@ -86,7 +88,7 @@ fn write_array<T: NativeType + Display>(
     Ok(text)
 }
 
-/// Returns an array of numbers as text, and drops it.
+/// Returns the text of `array`, and drops the array.
 pub fn write_owned<T: NativeType + Display>(
     alloc: Global,
     array: PrimitiveArray<T>,
@@ -96,7 +98,8 @@ pub fn write_owned<T: NativeType + Display>(
     text
 }
 
-/// Returns the array of numbers that a call returned as text.
+/// Returns the text of the array `made`, and drops the array. If `made` is an error, returns it as
+/// a `Fault`.
 pub fn write_made<T: NativeType + Display>(
     alloc: Global,
     made: Result<PrimitiveArray<T>, ComputeError>,
@@ -104,7 +107,8 @@ pub fn write_made<T: NativeType + Display>(
     write_owned(alloc, made?)
 }
 
-// Appends an array of numbers: its rows, its stored values, and whether it owns them.
+// Appends `array` to `text`: its rows, its stored values, the number of null rows, and `owned` or
+// `shared`.
 fn push_array<T: NativeType + Display>(
     text: &mut String,
     array: &PrimitiveArray<T>,
@@ -116,7 +120,8 @@ fn push_array<T: NativeType + Display>(
     write!(text, "{} null, {kept}", array.null_count()).map_err(Fault::from)
 }
 
-// Appends numbers, with `null` in place of those that a validity masks.
+// Appends each of `values` and a space to `text`. Appends `null` in place of a value that
+// `validity` masks.
 fn push_values<T: NativeType + Display>(
     text: &mut String,
     values: &[T],
@@ -132,7 +137,7 @@ fn push_values<T: NativeType + Display>(
     Ok(())
 }
 
-// Makes the stored values of a clone shared, and returns the clone as text.
+// Makes the stored values of a clone of `array` shared, and returns the clone as text.
 fn share<T: NativeType + Display>(
     alloc: Global,
     array: &PrimitiveArray<T>,
@@ -140,7 +145,8 @@ fn share<T: NativeType + Display>(
     write_made(alloc, array.clone_array(alloc)?.share(alloc))
 }
 
-// Removes the validity of a clone, and returns both.
+// Removes the validity of a clone of `array`, and returns as text the validity and the clone
+// without it.
 fn take_validity<T: NativeType + Display>(
     alloc: Global,
     array: &PrimitiveArray<T>,
@@ -151,7 +157,8 @@ fn take_validity<T: NativeType + Display>(
     text
 }
 
-// Returns a validity, and the array that it was removed from.
+// Returns as text the validity `taken`, then ` from ` and the array `left`, from which it was
+// taken.
 fn write_taken<T: NativeType + Display>(
     alloc: Global,
     taken: Option<Bitmap>,
@@ -163,7 +170,7 @@ fn write_taken<T: NativeType + Display>(
     Ok(text)
 }
 
-// Returns the bits of a validity, or `none`.
+// Returns the bits of `validity` as text, or `none` if there is no validity.
 fn write_validity(alloc: Global, validity: Option<Bitmap>) -> Result<String, Fault> {
     match validity {
         Some(bits) => write_bits(alloc, &bits),
@@ -171,7 +178,8 @@ fn write_validity(alloc: Global, validity: Option<Bitmap>) -> Result<String, Fau
     }
 }
 
-// Returns a clone with the validity of the next word.
+// Reads a validity from the next word, and returns as text a clone of `array` with this validity.
+// Returns the error `Case` if the validity does not have one bit for each row.
 fn with_validity<T: NativeType + Display>(
     alloc: Global,
     array: &PrimitiveArray<T>,
@@ -181,7 +189,8 @@ fn with_validity<T: NativeType + Display>(
     write_owned(alloc, array.clone_array(alloc)?.with_validity(validity))
 }
 
-// Reads a validity of `len` rows. The error is `Case`, if it has another length.
+// Reads a validity from the next word, or `None` from the word `-`. Returns the error `Case` if the
+// validity does not have `len` bits.
 fn read_fitting(alloc: Global, len: usize, words: &mut Words) -> Result<Option<Bitmap>, Fault>
     ensures { IfOk result (λ validity. HasBits len validity) }
 {
@@ -193,7 +202,8 @@ fn read_fitting(alloc: Global, len: usize, words: &mut Words) -> Result<Option<B
     }
 }
 
-// Returns a clone filled with the value of the next word.
+// Reads a number from the next word, sets all stored values of a clone of `array` to this number,
+// and returns the clone as text.
 fn fill_with<T: NativeType + Display + FromStr<Err: Drop>>(
     alloc: Global,
     array: &PrimitiveArray<T>,
@@ -203,8 +213,8 @@ fn fill_with<T: NativeType + Display + FromStr<Err: Drop>>(
     write_made(alloc, array.clone_array(alloc)?.fill_with(alloc, value))
 }
 
-// Writes the value of the next word over each value of a clone, if it lends them, and returns
-// `none` otherwise.
+// Reads a number from the next word, and writes it over each stored value of a clone of `array`.
+// Returns the clone as text, or `none` if its stored values are shared.
 fn get_mut_values<T: NativeType + Display + FromStr<Err: Drop>>(
     alloc: Global,
     array: &PrimitiveArray<T>,
@@ -217,7 +227,8 @@ fn get_mut_values<T: NativeType + Display + FromStr<Err: Drop>>(
     text
 }
 
-// Writes a value over each value of an array, if it lends them, and returns `none` otherwise.
+// Writes `value` over each stored value of `array`, and returns the array as text. Returns `none`
+// if the stored values are shared.
 fn write_filled<T: NativeType + Display>(
     alloc: Global,
     array: &mut PrimitiveArray<T>,
@@ -230,7 +241,8 @@ fn write_filled<T: NativeType + Display>(
     }
 }
 
-// Writes a number over each value that an array lends, and returns whether it lends them.
+// Writes `value` over each stored value of `array`, and returns `true`. Returns `false` if the
+// stored values are shared, and then writes nothing.
 fn write_all<T: NativeType>(array: &mut PrimitiveArray<T>, value: T) -> bool {
     match array.get_mut_values() {
         Some(values) => {
@@ -243,7 +255,9 @@ fn write_all<T: NativeType>(array: &mut PrimitiveArray<T>, value: T) -> bool {
     }
 }
 
-// Writes the last word's value at a place of a clone that owns its values.
+// Reads a place and a number from the next two words, writes the number at this place of the stored
+// values of a clone of `array`, and returns the clone as text. Returns the error `Case` if the
+// clone does not own its values, or if the place is out of range.
 fn as_mut_values<T: NativeType + Display + FromStr<Err: Drop>>(
     alloc: Global,
     array: &PrimitiveArray<T>,
@@ -257,7 +271,8 @@ fn as_mut_values<T: NativeType + Display + FromStr<Err: Drop>>(
     text
 }
 
-// Writes a value at a place of an array that owns its values.
+// Writes `value` at place `at` of the stored values of `array`, and returns the array as text.
+// Returns the error `Case` if the array does not own its values, or if `at` is out of range.
 fn write_changed<T: NativeType + Display>(
     alloc: Global,
     array: &mut PrimitiveArray<T>,
@@ -268,7 +283,8 @@ fn write_changed<T: NativeType + Display>(
     write_array(alloc, array)
 }
 
-// Writes a value at a place of an array that owns its values, if the place exists.
+// Writes `value` at place `at` of the stored values of `array`. Returns the error `Case` if the
+// array does not own its values, or if `at` is out of range.
 fn set_value<T: NativeType>(
     array: &mut PrimitiveArray<T>,
     at: usize,

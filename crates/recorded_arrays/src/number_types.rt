@@ -1,4 +1,5 @@
-//! Arrays of a type of numbers that a word names, and their type.
+//! Constructors of arrays of numbers, and the types of these arrays. A word names the type of the
+//! numbers.
 
 use crate::number_arrays::{write_made, write_owned};
 use crate::types::write_made_type;
@@ -14,7 +15,7 @@ use std::alloc::Global;
 use std::fmt::Display;
 use std::str::FromStr;
 
-/// A call on a type of numbers.
+/// A call on a type of numbers: of `from_vec`, `full_null` or `arrow_data_type`.
 #[derive(Clone, Copy)]
 pub enum Asked {
     FromVec,
@@ -51,7 +52,8 @@ const NUMBER_TYPES: [(&str, NumberType); 10] = [
     ("u128", NumberType::UInt128),
 ];
 
-/// Returns the result of a call on the type of numbers that the next word names.
+/// Reads the name of a type of numbers from the next word, and returns the result of `asked` for
+/// this type as text. Reads the arguments of the call from the words after the name.
 pub fn ask(alloc: Global, asked: Asked, words: &mut Words) -> Result<String, Fault> {
     match find_word(&NUMBER_TYPES, words.read()?)? {
         NumberType::Int8 => ask_type::<i8>(alloc, asked, words),
@@ -67,7 +69,8 @@ pub fn ask(alloc: Global, asked: Asked, words: &mut Words) -> Result<String, Fau
     }
 }
 
-// Returns the result of a call on a type of numbers.
+// Returns the result of `asked` for the type `T` as text. Reads the arguments of the call from
+// `words`.
 fn ask_type<T: ArrowType + Zero + Display + FromStr<Err: Drop>>(
     alloc: Global,
     asked: Asked,
@@ -80,7 +83,7 @@ fn ask_type<T: ArrowType + Zero + Display + FromStr<Err: Drop>>(
     }
 }
 
-// Creates an array of the numbers of the next words.
+// Reads a count and that many numbers from `words`, and returns the array of these numbers as text.
 fn from_vec<T: NativeType + Display + FromStr<Err: Drop>>(
     alloc: Global,
     words: &mut Words,
@@ -89,7 +92,7 @@ fn from_vec<T: NativeType + Display + FromStr<Err: Drop>>(
     write_owned(alloc, PrimitiveArray::<T>::from_vec(numbers))
 }
 
-// Creates nulls; the next word is their number.
+// Reads a length from the next word, and returns an array of that many nulls as text.
 fn full_null<T: NativeType + Display + Zero>(
     alloc: Global,
     words: &mut Words,

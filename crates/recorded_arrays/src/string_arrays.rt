@@ -29,7 +29,8 @@ pub enum Asked {
     AsBinview,
 }
 
-/// Returns the result of a call on an array.
+/// Returns the result of `asked` on `array` as text. `Value` reads the index of a row from the next
+/// word, and `OfSize` reads a size.
 pub fn ask(
     alloc: Global,
     asked: Asked,
@@ -45,7 +46,9 @@ pub fn ask(
     }
 }
 
-// Returns the byte strings, including those of null rows.
+// Returns the byte strings of all rows of `array` as text, including those of null rows, then the
+// number of rows and the number of nulls. Returns the error `Case` if the rows are not byte strings
+// or texts.
 fn bytes(alloc: Global, array: &AnyArray) -> Result<String, Fault> {
     match array {
         AnyArray::Binary(array) => write_strings(alloc, array),
@@ -59,7 +62,8 @@ fn bytes(alloc: Global, array: &AnyArray) -> Result<String, Fault> {
     }
 }
 
-// Returns the text of row `i`, null or not.
+// Returns the text of row `i` of an array of texts, even if the row is null. If `i` is an error,
+// returns it. Returns the error `Case` for an array of another kind, or if there is no row `i`.
 fn value(alloc: Global, array: &AnyArray, i: Result<usize, Fault>) -> Result<String, Fault> {
     let i = i?;
     match array {
@@ -70,7 +74,8 @@ fn value(alloc: Global, array: &AnyArray, i: Result<usize, Fault>) -> Result<Str
     }
 }
 
-// Returns the text of row `i`.
+// Returns the text of row `i` of `array`, even if the row is null. Returns the error `Case` if
+// there is no row `i`.
 fn text_at<O: Offset>(alloc: Global, array: &Utf8Array<O>, i: usize) -> Result<String, Fault> {
     if i >= array.offsets().len().saturating_sub(1) {
         return Err(Fault::Case);
@@ -78,7 +83,8 @@ fn text_at<O: Offset>(alloc: Global, array: &Utf8Array<O>, i: usize) -> Result<S
     write_value(alloc, array.value(i))
 }
 
-// Returns the text of row `i` of an array of views.
+// Returns the text of row `i` of an array of views, even if the row is null. Returns the error
+// `Case` if there is no row `i`.
 fn viewed_text(alloc: Global, array: &Utf8ViewArray, i: usize) -> Result<String, Fault> {
     if i >= array.views().len() {
         return Err(Fault::Case);
@@ -86,7 +92,9 @@ fn viewed_text(alloc: Global, array: &Utf8ViewArray, i: usize) -> Result<String,
     write_value(alloc, array.value(i))
 }
 
-// Returns the byte strings of an array of a size that is a constant of the code.
+// Reads the byte strings of a fixed-size binary array through `OfSize`, with `size` as its
+// constant, and returns them as text. If `size` is an error, returns it. Returns the error `Case`
+// for an array of another kind or of another size, or if `size` is not 0, 1, 2, 4, 8 or 16.
 fn of_size(alloc: Global, array: &AnyArray, size: Result<usize, Fault>) -> Result<String, Fault> {
     let size = size?;
     let AnyArray::FixedSizeBinary(array) = array else {
@@ -103,7 +111,8 @@ fn of_size(alloc: Global, array: &AnyArray, size: Result<usize, Fault>) -> Resul
     }
 }
 
-// Returns the byte strings of an array of size `SIZE`.
+// Reads the byte strings of `array` through `OfSize::<SIZE>`, and returns them as text. Returns the
+// error `Case` if the size of the array is not `SIZE`.
 fn sized<const SIZE: usize>(alloc: Global, array: &FixedSizeBinaryArray) -> Result<String, Fault> {
     if array.size() != SIZE {
         return Err(Fault::Case);
@@ -111,8 +120,8 @@ fn sized<const SIZE: usize>(alloc: Global, array: &FixedSizeBinaryArray) -> Resu
     write_strings(alloc, &OfSize::<SIZE>::new(array))
 }
 
-// Returns the type and the byte strings of the binary array inside an array of texts. The error is
-// `Case` for any array but texts with offsets.
+// Returns as text the type and the byte strings of the binary array inside an array of texts.
+// Returns the error `Case` for an array of another kind, or for texts in views.
 fn as_binary(alloc: Global, array: &AnyArray) -> Result<String, Fault> {
     match array {
         AnyArray::Utf8(array) => binary_of(alloc, array),
@@ -121,14 +130,14 @@ fn as_binary(alloc: Global, array: &AnyArray) -> Result<String, Fault> {
     }
 }
 
-// Returns the type and the byte strings of the binary array inside an array of texts.
+// Returns as text the type and the byte strings of the binary array inside `array`.
 fn binary_of<O: OffsetType>(alloc: Global, array: &Utf8Array<O>) -> Result<String, Fault> {
     let binary = array.as_binary();
     write_typed(alloc, binary.dtype(alloc), binary)
 }
 
-// Returns the type and the byte strings of the binary array inside an array of texts in views. The
-// error is `Case` for any other array.
+// Returns as text the type and the byte strings of the binary array inside an array of texts in
+// views. Returns the error `Case` for an array of another kind.
 fn as_binview(alloc: Global, array: &AnyArray) -> Result<String, Fault> {
     let AnyArray::Utf8View(array) = array else {
         return Err(Fault::Case);
@@ -137,7 +146,8 @@ fn as_binview(alloc: Global, array: &AnyArray) -> Result<String, Fault> {
     write_typed(alloc, binary.dtype(alloc), binary)
 }
 
-// Returns a type and byte strings as text.
+// Returns the text of the type `dtype`, then `: ` and the byte strings as text. If `dtype` is an
+// error, returns it as a `Fault`.
 fn write_typed<A: ByteRows>(
     alloc: Global,
     dtype: Result<ArrowDataType, ComputeError>,

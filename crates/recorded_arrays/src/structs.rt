@@ -1,4 +1,4 @@
-//! Structs of fields and columns that need not match.
+//! Calls of `StructArray::try_new`, with fields and columns that need not match.
 
 ghost use Rattle.std.specs.Prelude.{IfOk};
 ghost use Rattle.std.specs.List.{All};
@@ -17,9 +17,11 @@ use recorded_text::store::Store;
 use recorded_text::words::Words;
 use std::alloc::Global;
 
-/// Reads structs, and returns their rows or the error: the number of rows, the validity, the number
-/// of fields, the name of each and an array of its type, the number of columns, and for each the
-/// array that it is a clone of.
+/// Reads the arguments of `StructArray::try_new` from `words`, calls it, and returns as text the
+/// rows of the structs, or `refused: ` and the error. The words are the number of rows, the
+/// validity, the number of fields, for each field its name and the name of an array of the same
+/// type, the number of columns, and for each column the name of the array to clone. Arrays are
+/// found in `store`.
 pub fn try_new(alloc: Global, store: &Store, words: &mut Words) -> Result<String, Fault>
     requires { HasGoodArrays store.now }
 {
@@ -30,7 +32,8 @@ pub fn try_new(alloc: Global, store: &Store, words: &mut Words) -> Result<String
     write_struct(alloc, StructArray::try_new(fields, len, columns, validity))
 }
 
-// Returns the rows of structs as text, or the text of the error.
+// Returns the rows of the structs `made` as text. If `made` is an error, returns `refused: ` and
+// the message of the error.
 fn write_struct(alloc: Global, made: Result<StructArray, ArrayError>) -> Result<String, Fault>
     requires { IfOk made (λ array. IsGood (Struct array)) }
 {
@@ -40,12 +43,13 @@ fn write_struct(alloc: Global, made: Result<StructArray, ArrayError>) -> Result<
     }
 }
 
-// Returns the text of an error of `StructArray::try_new`: `refused: ` and the error's message.
+// Returns `refused: ` and the message of `error`, an error of `StructArray::try_new`.
 fn refusal(alloc: Global, error: &ArrayError) -> Result<String, Fault> {
     format!(in alloc; "refused: {error}").map_err(Fault::from)
 }
 
-// Reads a count, and that many fields.
+// Reads a count from the next word, then that many fields. For each field, reads its name and the
+// name of an array of `store` that has the type of the field.
 fn read_fields(alloc: Global, store: &Store, words: &mut Words) -> Result<Vec<Field>, Fault>
     requires { HasGoodArrays store.now }
 {
@@ -59,7 +63,8 @@ fn read_fields(alloc: Global, store: &Store, words: &mut Words) -> Result<Vec<Fi
     Ok(fields)
 }
 
-// Reads a count, and that many columns.
+// Reads a count from the next word, then that many names of arrays of `store`, and returns clones
+// of these arrays.
 fn read_columns(alloc: Global, store: &Store, words: &mut Words) -> Result<Vec<AnyArray>, Fault>
     requires { HasGoodArrays store.now }
     ensures { IfOk result (λ columns. All IsGood columns.items) }
@@ -73,7 +78,8 @@ fn read_columns(alloc: Global, store: &Store, words: &mut Words) -> Result<Vec<A
     Ok(columns)
 }
 
-// Returns a clone of the array that the next word names.
+// Reads the name of an array of `store` from the next word, and returns a clone of the array.
+// Returns the error `Case` if `store` has no array of that name.
 fn read_copy(alloc: Global, store: &Store, words: &mut Words) -> Result<AnyArray, Fault>
     requires { HasGoodArrays store.now }
     ensures { IfOk result (λ copy. IsGood copy) }

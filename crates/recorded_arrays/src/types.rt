@@ -1,4 +1,4 @@
-//! Types of arrays: their names, and comparisons of them.
+//! Types of arrays as text, and comparisons of the types of two arrays.
 
 use crate::values_text::write_value;
 use polars_arrays_bits::error::ComputeError;
@@ -11,7 +11,8 @@ use recorded_text::type_text::write_type;
 use recorded_text::words::Words;
 use std::alloc::Global;
 
-/// Returns whether a test of the types of two arrays holds.
+/// Returns the text `true` if `comparison` holds for the types of `left` and `right`, otherwise
+/// `false`. Returns the error `Case` if `comparison` needs fields that the types do not have.
 pub fn write_comparison(
     alloc: Global,
     left: &AnyArray,
@@ -21,7 +22,9 @@ pub fn write_comparison(
     write_value(alloc, is_told(alloc, left, right, comparison)?)
 }
 
-/// A test of the types of two arrays.
+/// A comparison of the types of two arrays. `Equal` and `EqualField` use `==`, `StructOf` uses
+/// `is_struct_of`, and each other variant uses the function or method of its name. `SameField` and
+/// `EqualField` compare the first fields of structs.
 #[derive(Clone, Copy)]
 pub enum NamedComparison {
     SameType,
@@ -34,8 +37,8 @@ pub enum NamedComparison {
     EqualField,
 }
 
-// Returns whether a test of the types of two arrays holds. Tests of fields are of the first fields
-// of structs.
+// Returns whether `comparison` holds for the types of `left` and `right`. Returns the error `Case`
+// if `comparison` needs fields that the types do not have.
 fn is_told(
     alloc: Global,
     left: &AnyArray,
@@ -55,7 +58,7 @@ fn is_told(
     }
 }
 
-// Returns whether an array has a type.
+// Returns whether `array` has the type `dtype`. If `dtype` is an error, returns it as a `Fault`.
 fn has_type(array: &AnyArray, dtype: Result<ArrowDataType, ComputeError>) -> Result<bool, Fault> {
     let dtype = dtype?;
     let holds = array.has_type(&dtype);
@@ -63,7 +66,8 @@ fn has_type(array: &AnyArray, dtype: Result<ArrowDataType, ComputeError>) -> Res
     Ok(holds)
 }
 
-// Returns whether a type is that of structs of these fields.
+// Returns whether `dtype` is the type of structs with exactly the fields `fields`. If `dtype` is an
+// error, returns it as a `Fault`.
 fn has_fields(fields: &[Field], dtype: Result<ArrowDataType, ComputeError>) -> Result<bool, Fault> {
     let dtype = dtype?;
     let holds = is_struct_of(fields, &dtype);
@@ -71,7 +75,8 @@ fn has_fields(fields: &[Field], dtype: Result<ArrowDataType, ComputeError>) -> R
     Ok(holds)
 }
 
-// Returns whether the types of two arrays are equal, by `==` or by `same_kind`.
+// Returns whether the types of `left` and `right` are equal, by `same_kind` if `comparison` is
+// `SameKind`, otherwise by `==`.
 fn compare_types(
     alloc: Global,
     left: &AnyArray,
@@ -84,7 +89,8 @@ fn compare_types(
     holds
 }
 
-// Returns whether two types are equal, by `==` or by `same_kind`.
+// Returns whether the types `left` and `right` are equal, by `same_kind` if `comparison` is
+// `SameKind`, otherwise by `==`. If `right` is an error, returns it as a `Fault`.
 fn compare_type(
     left: &ArrowDataType,
     right: Result<ArrowDataType, ComputeError>,
@@ -99,7 +105,7 @@ fn compare_type(
     Ok(holds)
 }
 
-// Returns the fields of structs.
+// Returns the fields of an array of structs. Returns the error `Case` for an array of another kind.
 fn fields(array: &AnyArray) -> Result<&[Field], Fault> {
     match array {
         AnyArray::Struct(array) => Ok(array.fields()),
@@ -107,7 +113,8 @@ fn fields(array: &AnyArray) -> Result<&[Field], Fault> {
     }
 }
 
-// Returns the first field of structs.
+// Returns the first field of an array of structs. Returns the error `Case` for an array of another
+// kind, or if the structs have no fields.
 fn first_field(array: &AnyArray) -> Result<&Field, Fault> {
     match fields(array)?.first() {
         Some(field) => Ok(field),
@@ -115,7 +122,8 @@ fn first_field(array: &AnyArray) -> Result<&Field, Fault> {
     }
 }
 
-// Returns the text of a type, and drops it.
+// Returns the text of the type `made`, and drops the type. If `made` is an error, returns it as a
+// `Fault`.
 pub fn write_made_type(
     alloc: Global,
     made: Result<ArrowDataType, ComputeError>,
@@ -126,12 +134,12 @@ pub fn write_made_type(
     text
 }
 
-/// Returns the type of an array.
+/// Returns the type of `array` as text.
 pub fn dtype(alloc: Global, array: &AnyArray) -> Result<String, Fault> {
     write_made_type(alloc, array.dtype(alloc))
 }
 
-/// Returns a clone of the type of an array.
+/// Clones the type of `array`, and returns the clone as text.
 pub fn copied_type(alloc: Global, array: &AnyArray) -> Result<String, Fault> {
     let dtype = array.dtype(alloc)?;
     let copy = clone_type(alloc, &dtype);
@@ -139,15 +147,15 @@ pub fn copied_type(alloc: Global, array: &AnyArray) -> Result<String, Fault> {
     write_made_type(alloc, copy)
 }
 
-/// The strings between offsets.
+/// The rows of an array with offsets: byte strings, or texts in UTF-8.
 #[derive(Clone, Copy)]
 pub enum Strings {
     Bytes,
     Texts,
 }
 
-/// Returns the type of an array of byte strings, or of texts, with offsets of the type that the
-/// next word names.
+/// Reads the type of the offsets, `i32` or `i64`, from the next word, and returns as text the type
+/// of an array of `strings` with these offsets. Returns the error `Word` for another word.
 pub fn strings_data_type(
     alloc: Global,
     strings: Strings,
@@ -160,7 +168,7 @@ pub fn strings_data_type(
     }
 }
 
-// Returns the type of an array of strings with such offsets.
+// Returns the type of an array of `strings` with offsets of type `O`.
 fn data_type<O: OffsetType>(strings: Strings) -> ArrowDataType {
     match strings {
         Strings::Bytes => O::binary_data_type(),

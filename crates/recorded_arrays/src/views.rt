@@ -1,4 +1,4 @@
-//! Views: the contents of their sixteen bytes, and comparisons of two.
+//! Calls on views: their parts, and comparisons of two views.
 
 ghost use Rattle.std.specs.Prelude.{◌+◌, ◌≤◌, IsTrue, drop};
 ghost use Rattle.polars_arrays_views.specs.Views.{AllZero, view_len};
@@ -12,7 +12,7 @@ use recorded_text::parts::{Kept, read_buffers, read_bytes, read_view};
 use recorded_text::words::Words;
 use std::alloc::Global;
 
-/// A call on a view.
+/// A method of `View`. Each variant has the name of the method.
 #[derive(Clone, Copy)]
 pub enum Asked {
     AsU128,
@@ -28,13 +28,14 @@ pub enum Asked {
     InlinedLess,
 }
 
-/// Returns the result of a call on the view whose bytes are the next word.
+/// Reads a view from the next word, calls the method `asked` on this view, and returns the result
+/// as text. Reads the argument of the method, if it has one, from the words after the view.
 pub fn ask_next(alloc: Global, asked: Asked, words: &mut Words) -> Result<String, Fault> {
     ask(alloc, asked, read(alloc, words)?, words)
 }
 
-/// Reads a row from the next word, and returns the bytes of its view as text. The error is `Case`
-/// if the row has more than 12 bytes.
+/// Reads a byte string from the next word, and returns the sixteen bytes of its view as text.
+/// Returns the error `Case` if the byte string has more than 12 bytes.
 pub fn of_short(alloc: Global, words: &mut Words) -> Result<String, Fault> {
     let bytes = read_bytes(alloc, words.read()?)?;
     if bytes.len() > 12 {
@@ -44,12 +45,13 @@ pub fn of_short(alloc: Global, words: &mut Words) -> Result<String, Fault> {
     write_bytes(alloc, &view.as_u128().to_le_bytes())
 }
 
-// Reads the view whose bytes are the next word.
+// Reads a view from the next word, which has its sixteen bytes.
 fn read(alloc: Global, words: &mut Words) -> Result<View, Fault> {
     read_view(alloc, words.read()?)
 }
 
-// Returns the result of a call on a view, and another view or the buffers of the next words.
+// Calls the method `asked` on `view`, and returns the result as text. Reads the argument of the
+// method, another view or buffers, from `words`.
 fn ask(alloc: Global, asked: Asked, view: View, words: &mut Words) -> Result<String, Fault> {
     match asked {
         Asked::AsU128 => write_value(alloc, view.as_u128()),
@@ -66,7 +68,8 @@ fn ask(alloc: Global, asked: Asked, view: View, words: &mut Words) -> Result<Str
     }
 }
 
-// Returns whether a view and another one agree in part, or whether the left row is less.
+// Calls the method `asked`, one of `SameHead`, `SameTail` and `InlinedLess`, on `left` and `right`,
+// and returns the result as text. If `right` is an error, returns it.
 fn compare(
     alloc: Global,
     asked: Asked,
@@ -81,7 +84,8 @@ fn compare(
     }
 }
 
-// Returns the bytes of a row of at most 12 bytes.
+// Returns the byte string that `view` holds, as text. Returns the error `Case` if the byte string
+// has more than 12 bytes.
 fn inlined(alloc: Global, view: &View) -> Result<String, Fault> {
     if view.len() > 12 {
         return Err(Fault::Case);
@@ -89,7 +93,9 @@ fn inlined(alloc: Global, view: &View) -> Result<String, Fault> {
     write_bytes(alloc, view.inlined())
 }
 
-// Returns the bytes of a longer row, which lies in one of the buffers of the next words.
+// Reads a count and that many buffers from `words`, and returns as text the byte string of `view`
+// in these buffers. Returns the error `Case` if the byte string has at most 12 bytes, or if the
+// view is not good.
 fn in_buffer(alloc: Global, view: &View, words: &mut Words) -> Result<String, Fault> {
     let buffers = read_buffers(alloc, Kept::Owned, words)?;
     let text = write_long(alloc, view, &buffers);
@@ -97,7 +103,8 @@ fn in_buffer(alloc: Global, view: &View, words: &mut Words) -> Result<String, Fa
     text
 }
 
-// Returns the bytes of a longer row, which lies in one of these buffers.
+// Returns as text the byte string of `view`, which lies in one of `buffers`. Returns the error
+// `Case` if the byte string has at most 12 bytes, or if the view is not good.
 fn write_long(alloc: Global, view: &View, buffers: &[Buffer<u8>]) -> Result<String, Fault> {
     if view.len() <= 12 || !view.is_good(buffers) {
         return Err(Fault::Case);
@@ -105,7 +112,8 @@ fn write_long(alloc: Global, view: &View, buffers: &[Buffer<u8>]) -> Result<Stri
     write_bytes(alloc, view.in_buffer(buffers))
 }
 
-// Returns whether the view describes a row of the buffers of the next words.
+// Reads a count and that many buffers from `words`, and returns the text `true` if `view` is good
+// with these buffers, otherwise `false`.
 fn is_good(alloc: Global, view: &View, words: &mut Words) -> Result<String, Fault> {
     let buffers = read_buffers(alloc, Kept::Owned, words)?;
     let good = view.is_good(&buffers);
@@ -113,7 +121,9 @@ fn is_good(alloc: Global, view: &View, words: &mut Words) -> Result<String, Faul
     write_value(alloc, good)
 }
 
-// Returns whether the left row is less. Both must have at most 12 bytes, padded with zeros.
+// Returns the text `true` if the byte string of `left` is less than that of `right`, otherwise
+// `false`. Returns the error `Case` if one of them has more than 12 bytes, or is not padded with
+// zeros.
 fn inlined_less(alloc: Global, left: &View, right: &View) -> Result<String, Fault> {
     if !is_short(left) || !is_short(right) {
         return Err(Fault::Case);
@@ -121,7 +131,7 @@ fn inlined_less(alloc: Global, left: &View, right: &View) -> Result<String, Faul
     write_value(alloc, left.inlined_less(right))
 }
 
-// Returns whether a view holds a row of at most 12 bytes, padded with zeros.
+// Returns whether `view` holds a byte string of at most 12 bytes, padded with zeros.
 fn is_short(view: &View) -> bool
     ensures short { IsTrue result → view_len view.now ≤ 12 }
     ensures zeros { IsTrue result → AllZero (drop (4 + view_len view.now) view.now) }

@@ -1,12 +1,12 @@
-//! Windows of rows in words.
+//! A reader of windows from words.
 
 ghost use Rattle.std.specs.Prelude.{◌+◌, ◌≤◌, IfOk};
 
 use recorded_text::fault::Fault;
 use recorded_text::words::Words;
 
-/// Reads the first row and the number of rows of a window. The error is `Case`, if there are fewer
-/// rows than that.
+/// Reads the first row and the number of rows of a window from the next two words. Returns the
+/// error `Case` if the window is not within `len` rows.
 pub fn read_window(words: &mut Words, len: usize) -> Result<(usize, usize), Fault>
     ensures { IfOk result (λ window. window.0 + window.1 ≤ len) }
 {

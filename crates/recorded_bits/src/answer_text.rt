@@ -1,4 +1,4 @@
-//! Results other than bits as text.
+//! Functions that write results as text.
 
 use polars_arrays_bits::bitmap::Bitmap;
 use recorded_text::bits_text::write_bits;
@@ -11,7 +11,7 @@ pub fn write_value<N: Display + Drop>(alloc: Global, value: N) -> Result<String,
     value.to_string(alloc).map_err(Fault::from)
 }
 
-/// Returns the text of a value, or `none`.
+/// Returns the text of the value in `found`, or `none` if there is no value.
 pub fn write_found<N: Display + Drop>(alloc: Global, found: Option<N>) -> Result<String, Fault> {
     match found {
         Some(found) => write_value(alloc, found),
@@ -19,14 +19,14 @@ pub fn write_found<N: Display + Drop>(alloc: Global, found: Option<N>) -> Result
     }
 }
 
-/// Returns numbers between brackets, separated by one space.
+/// Returns the text of `numbers` in brackets, separated by single spaces, such as `[1 2 3]`.
 pub fn write_numbers<N: Display>(alloc: Global, numbers: &[N]) -> Result<String, Fault> {
     let mut text = String::new(alloc);
     push_numbers(&mut text, numbers)?;
     Ok(text)
 }
 
-/// Appends numbers between brackets, separated by one space.
+/// Appends `numbers` to `text` in brackets, separated by single spaces.
 fn push_numbers<N: Display>(text: &mut String, numbers: &[N]) -> Result<(), Fault> {
     text.push('[')?;
     for i in 0..numbers.len() {
@@ -38,7 +38,8 @@ fn push_numbers<N: Display>(text: &mut String, numbers: &[N]) -> Result<(), Faul
     text.push(']').map_err(Fault::from)
 }
 
-/// Returns the results of the operations so far, unless one failed, and bits as the last result.
+/// Returns the results in `told`, followed by the text of `bits` as the last result. If `told` is
+/// an error, returns it.
 pub fn write_told(
     alloc: Global,
     told: Result<Told, Fault>,
@@ -47,7 +48,7 @@ pub fn write_told(
     told?.with_bits(alloc, bits)
 }
 
-/// The results of the operations of one line, separated by one space.
+/// The text of the results of the operations of one line, separated by single spaces.
 #[derive(Drop)]
 pub struct Told {
     text: String,
@@ -61,7 +62,7 @@ impl Told {
         }
     }
 
-    /// Appends a result.
+    /// Appends the text `answer` as a result.
     pub fn add(&mut self, answer: &str) -> Result<(), Fault> {
         if !self.text.is_empty() {
             self.text.push(' ')?;
@@ -69,29 +70,29 @@ impl Told {
         self.text.push_str(answer).map_err(Fault::from)
     }
 
-    /// Appends a result that is a constant text, unless there is an error.
+    /// Appends the text in `answer` as a result. If `answer` is an error, returns it.
     pub fn add_found(&mut self, answer: Result<&str, Fault>) -> Result<(), Fault> {
         self.add(answer?)
     }
 
-    /// Appends a result, unless there is an error.
+    /// Appends the text in `answer` as a result. If `answer` is an error, returns it.
     pub fn add_text(&mut self, answer: Result<String, Fault>) -> Result<(), Fault> {
         let answer = answer?;
         self.add(&answer)
     }
 
-    /// Appends a value as a result.
+    /// Appends the text of `value` as a result.
     pub fn add_value<N: Display + Drop>(&mut self, alloc: Global, value: N) -> Result<(), Fault> {
         self.add_text(write_value(alloc, value))
     }
 
-    // Returns all results, with bits as the last one.
+    // Returns the text of all results, followed by the text of `bits` as the last result.
     fn with_bits(mut self, alloc: Global, bits: &Bitmap) -> Result<String, Fault> {
         self.add_text(write_bits(alloc, bits))?;
         Ok(self.into_text())
     }
 
-    /// Returns all results.
+    /// Returns the text of all results.
     pub fn into_text(self) -> String {
         let Told { text } = self;
         text

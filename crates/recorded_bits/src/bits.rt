@@ -1,26 +1,30 @@
 //! Calls on bitmaps.
 //!
-//! - `and X Y`, `or`, `xor`, `xnor`, `and_not`, `or_not`: the bits of the operator on two bitmaps
-//!   of one length
+//! - `and X Y`, `or`, `xor`, `xnor`, `and_not`, `or_not`: the operator applied to the bits of two
+//!   bitmaps of equal length at each index
 //! - `not X`: the negated bits
-//! - `merge_eq Q L R`, `merge_ne Q L R`: equality and inequality of rows by their values' bits and
-//!   presence
+//! - `merge_eq Q L R`, `merge_ne Q L R`: for each row, whether two sides are equal, or differ. Q
+//!   says which stored values are equal, or differ; L and R say which rows of the sides are present
 //! - `set_bits X`, `unset_bits X`, `bitmap_len X`: the number of true bits, of false bits, and of
 //!   all
-//! - `num_intersections_with X Y`: the number of places where both are true
-//! - `get_bit X I`, `bitmap_get X I`: bit I; `bitmap_get` also returns `none`
+//! - `num_intersections_with X Y`: the number of places where both bitmaps have a true bit
+//! - `get_bit X I`, `bitmap_get X I`: bit I. If I is out of range, `bitmap_get` returns `none`, and
+//!   `get_bit` returns an error
 //! - `bitmap_slice X AT N`: the N bits from place AT on
-//! - `bitmap_share X`, `clone_bitmap X`: the same bits, shared and copied
-//! - `slice_clone X AT N`: those N bits of a clone that shares the words of X, and then X
-//! - `meet_shared X P Q N`: the number of places where two windows of N bits, at P and Q, of shared
-//!   words are true
+//! - `bitmap_share X`, `clone_bitmap X`: the bits of a clone of X. With `bitmap_share`, the clone
+//!   is then converted to one whose words are shared with later clones
+//! - `slice_clone X AT N`: the N bits from place AT on, cut out of a clone that shares its words,
+//!   and then all bits of X
+//! - `meet_shared X P Q N`: the number of places where two windows of X both have a true bit. The
+//!   windows share their words, have N bits, and begin at places P and Q
 //! - `new_zeroed N`, `new_with_value VALUE N`: N bits of one value
 //! - `set_bits_filled VALUE N`: the number of true bits among N bits of one value
-//! - `from_bools N VALUE..`, `from_words N WORD.. AT COUNT`: the bits of truth values, or of words
-//!   from bit AT on
-//! - `from_values X`, `from_wide_values X`: the bits of X, packed one by one
-//! - `from_counted X N COST..`: the bits of X, packed one by one, and a counter to which the cost
-//!   of each is added
+//! - `from_bools N VALUE..`: the N truth values as bits
+//! - `from_words N WORD.. AT COUNT`: COUNT bits of the N words of 64 bits, from bit AT on
+//! - `from_values X`, `from_wide_values X`: the bits of X, which are read one by one. With
+//!   `from_wide_values`, they are packed like the results of comparisons of wide elements
+//! - `from_counted X N COST..`: the bits of X, which are read one by one, and the sum of the costs.
+//!   N is the number of bits, and there is a COST for each
 
 ghost use Rattle.std.specs.Prelude.{◌↔◌, ◌+◌, ◌≤◌, IsTrue};
 
@@ -37,7 +41,8 @@ use recorded_text::words::Words;
 use std::alloc::Global;
 use std::str::FromStr;
 
-/// A call on one bitmap.
+/// A call on one bitmap, as listed at the top of this file. `Values`, `WideValues` and `Counted`
+/// are `from_values`, `from_wide_values` and `from_counted`.
 #[derive(Clone, Copy)]
 pub enum OfOne {
     Not,
@@ -56,7 +61,8 @@ pub enum OfOne {
     Counted,
 }
 
-/// A call on bitmaps, including those that create one.
+/// A call on one bitmap, on two (`Combined`, `CountBoth`) or three (`Merged`), or one that creates
+/// a bitmap from other operands.
 #[derive(Clone, Copy)]
 pub enum Asked {
     One(OfOne),
@@ -70,7 +76,8 @@ pub enum Asked {
     Words,
 }
 
-/// Returns the result of a call on the bitmaps of the next words.
+/// Reads the bitmaps of the call `asked` from the next words, and returns the result of the call.
+/// Other operands are read from the words after the bitmaps.
 pub fn ask(alloc: Global, asked: Asked, words: &mut Words) -> Result<String, Fault> {
     match asked {
         Asked::One(of_one) => ask_next(alloc, of_one, words),
@@ -86,7 +93,8 @@ pub fn ask(alloc: Global, asked: Asked, words: &mut Words) -> Result<String, Fau
     }
 }
 
-// Returns the result of a call on bitmaps that were read.
+// Returns the result of the call `asked` on two or three bitmaps. If `operands` is an error,
+// returns it. The error is `Case` if the lengths differ or there are not as many as the call needs.
 fn ask_more(
     alloc: Global,
     asked: Asked,
@@ -95,7 +103,8 @@ fn ask_more(
     ask_all(alloc, asked, &operands?)
 }
 
-// Returns the result of a call on two or three bitmaps.
+// Returns the result of the call `asked` on two or three bitmaps. The error is `Case` if the
+// lengths differ or there are not as many as the call needs.
 fn ask_all(alloc: Global, asked: Asked, operands: &[Bitmap]) -> Result<String, Fault> {
     match (asked, operands) {
         (Asked::Combined(operator), [x, y]) => write_read(alloc, combine(alloc, operator, x, y)),
@@ -107,14 +116,15 @@ fn ask_all(alloc: Global, asked: Asked, operands: &[Bitmap]) -> Result<String, F
     }
 }
 
-/// Returns whether there are `n` places from place `at` on.
+/// Returns whether `n` items from place `at` on are in range, for a sequence of `len` items.
 pub fn is_within(at: usize, n: usize, len: usize) -> bool
     ensures { IsTrue result ↔ (at + n ≤ len) }
 {
     at <= len && n <= len - at
 }
 
-/// Reads a truth value from the next word.
+/// Reads `true` or `false` from the next word. The error is `Word` if the word is missing or
+/// another one.
 pub fn read_truth(words: &mut Words) -> Result<bool, Fault> {
     match words.read()? {
         "true" => Ok(true),
@@ -123,7 +133,8 @@ pub fn read_truth(words: &mut Words) -> Result<bool, Fault> {
     }
 }
 
-/// Reads two numbers from the next words.
+/// Reads two numbers from the next two words. The error is `Word` if a word is missing or is no
+/// number of the type.
 pub fn read_pair<A: Copy + FromStr<Err: Drop>, B: Copy + FromStr<Err: Drop>>(
     words: &mut Words,
 ) -> Result<(A, B), Fault> {
@@ -132,12 +143,12 @@ pub fn read_pair<A: Copy + FromStr<Err: Drop>, B: Copy + FromStr<Err: Drop>>(
     Ok((first, second))
 }
 
-/// Reads bits from the next word.
+/// Reads a bitmap from the next word, such as `b0:0110`.
 pub fn read_bitmap(alloc: Global, words: &mut Words) -> Result<Bitmap, Fault> {
     read_bits(alloc, words.read()?)
 }
 
-/// Reads `count` bitmaps from the next words.
+/// Reads `count` bitmaps from the next words, one from each word.
 pub fn read_bitmaps(alloc: Global, words: &mut Words, count: usize) -> Result<Vec<Bitmap>, Fault> {
     let mut bitmaps = Vec::new(alloc);
     for _ in 0..count {
@@ -146,7 +157,8 @@ pub fn read_bitmaps(alloc: Global, words: &mut Words, count: usize) -> Result<Ve
     Ok(bitmaps)
 }
 
-/// Applies an operator to the bits of two bitmaps, which must have equal lengths.
+/// Applies `operator` to the bits of two bitmaps at each index. The error is `Case` if the lengths
+/// differ, and `Memory` if an allocation fails.
 pub fn combine(alloc: Global, operator: Operator, x: &Bitmap, y: &Bitmap) -> Result<Bitmap, Fault> {
     if x.len() != y.len() {
         return Err(Fault::Case);
@@ -162,7 +174,9 @@ pub fn combine(alloc: Global, operator: Operator, x: &Bitmap, y: &Bitmap) -> Res
     bits.map_err(Fault::from)
 }
 
-/// Merges three bitmaps, which must have equal lengths.
+/// Returns for each row whether two sides are equal (`Merge::Eq`) or differ (`Merge::Ne`). `q` says
+/// which stored values are equal or differ; `l` and `r` say which rows of the sides are present.
+/// The error is `Case` if the lengths differ, and `Memory` if an allocation fails.
 pub fn combine_three(
     alloc: Global,
     merge: Merge,
@@ -180,7 +194,8 @@ pub fn combine_three(
     bits.map_err(Fault::from)
 }
 
-/// Counts the places where both bitmaps are true.
+/// Returns the number of places where both bitmaps have a true bit. The error is `Case` if the
+/// lengths differ.
 pub fn count_both(x: &Bitmap, y: &Bitmap) -> Result<usize, Fault> {
     if x.len() != y.len() {
         return Err(Fault::Case);
@@ -188,7 +203,8 @@ pub fn count_both(x: &Bitmap, y: &Bitmap) -> Result<usize, Fault> {
     Ok(x.num_intersections_with(y))
 }
 
-/// Keeps a window of a bitmap. The error is `Case`, if it is out of range.
+/// Reduces a bitmap to the `n` bits from place `at` on. The error is `Case` if they are out of
+/// range.
 pub fn keep(bits: &mut Bitmap, at: usize, n: usize) -> Result<(), Fault> {
     if !is_within(at, n, bits.len()) {
         return Err(Fault::Case);
@@ -197,26 +213,27 @@ pub fn keep(bits: &mut Bitmap, at: usize, n: usize) -> Result<(), Fault> {
     Ok(())
 }
 
-/// Returns a window of a bitmap as a clone. The error is `Case`, if it is out of range.
+/// Returns a clone of a bitmap, reduced to the `n` bits from place `at` on. The error is `Case` if
+/// they are out of range, and `Memory` if an allocation fails.
 pub fn cut(alloc: Global, bits: &Bitmap, at: usize, n: usize) -> Result<Bitmap, Fault> {
     let mut window = bits.clone_bitmap(alloc)?;
     keep(&mut window, at, n)?;
     Ok(window)
 }
 
-/// Returns the text of a bitmap that was read, or the error of reading it.
+/// Returns the text of a bitmap. If `bits` is an error, returns it.
 pub fn write_read(alloc: Global, bits: Result<Bitmap, Fault>) -> Result<String, Fault> {
     write_bits(alloc, &bits?)
 }
 
-// Reads a bitmap from the next word of the text, and returns the result of the call `asked` on it.
-// Further arguments of the call are read from the words after it.
+// Reads a bitmap from the next word, and returns the result of the call `asked` on it. Other
+// operands are read from the words after the bitmap.
 fn ask_next(alloc: Global, asked: OfOne, words: &mut Words) -> Result<String, Fault> {
     let x = read_bitmap(alloc, words)?;
     ask_one(alloc, asked, &x, words)
 }
 
-// Returns the result of a call on one bitmap.
+// Returns the result of the call `asked` on the bitmap `x`. Other operands are read from `words`.
 fn ask_one(alloc: Global, asked: OfOne, x: &Bitmap, words: &mut Words) -> Result<String, Fault> {
     match asked {
         OfOne::Not => write_made(alloc, x.not(alloc)),
@@ -236,17 +253,20 @@ fn ask_one(alloc: Global, asked: OfOne, x: &Bitmap, words: &mut Words) -> Result
     }
 }
 
-// Returns a clone of a bitmap that shares its words with later clones.
+// Clones a bitmap, and returns the clone with shared words: later clones of it use the same words
+// instead of copying them. The error is `Memory`.
 fn share(alloc: Global, bits: &Bitmap) -> Result<Bitmap, Fault> {
     bits.clone_bitmap(alloc)?.share(alloc).map_err(Fault::from)
 }
 
-// Packs the bits of a bitmap one by one.
+// Creates a bitmap from the bits of another one, which are read one by one; `wide` is as in
+// `SingleBits`.
 fn one_by_one(alloc: Global, bits: &Bitmap, wide: bool) -> Result<Bitmap, ComputeError> {
     Bitmap::from_values(alloc, &SingleBits { bits, wide })
 }
 
-// Returns bit `i`, if it exists.
+// Returns the text of bit `i` of `x`. If `i` is an error, returns it. The error is `Case` if `i` is
+// out of range.
 fn bit(alloc: Global, x: &Bitmap, i: Result<usize, Fault>) -> Result<String, Fault> {
     let i = i?;
     if i >= x.len() {
@@ -255,25 +275,29 @@ fn bit(alloc: Global, x: &Bitmap, i: Result<usize, Fault>) -> Result<String, Fau
     write_value(alloc, x.get_bit(i))
 }
 
-// Returns bit `i`, or `none`.
+// Returns the text of bit `i` of `x`, or `none` if `i` is out of range. If `i` is an error, returns
+// it.
 fn get(alloc: Global, x: &Bitmap, i: Result<usize, Fault>) -> Result<String, Fault> {
     write_found(alloc, x.get(i?))
 }
 
-// Returns a window of a clone.
+// Reads a place and a number of bits from the next words, and returns the text of that many bits of
+// `x` from that place on. The error is `Case` if they are out of range.
 fn slice(alloc: Global, x: &Bitmap, words: &mut Words) -> Result<String, Fault> {
     let (at, n) = read_pair(words)?;
     write_read(alloc, cut(alloc, x, at, n))
 }
 
-// Returns a window of a clone of shared words, and then the bitmap itself.
+// Reads a place and a number of bits from the next words. Cuts that many bits from that place on
+// out of a clone of `x` with shared words. Returns the text of these bits, and then the text of all
+// bits of the clone. The error is `Case` if the place and number are out of range.
 fn slice_clone(alloc: Global, x: &Bitmap, words: &mut Words) -> Result<String, Fault> {
     let (at, n) = read_pair(words)?;
     let x = share(alloc, x)?;
     write_both(alloc, cut(alloc, &x, at, n), &x)
 }
 
-// Returns the text of bits, unless there is an error, and of others after them.
+// Returns the texts of two bitmaps, separated by a space. If `first` is an error, returns it.
 fn write_both(
     alloc: Global,
     first: Result<Bitmap, Fault>,
@@ -285,7 +309,9 @@ fn write_both(
     Ok(text)
 }
 
-// Counts the places where two windows of a bitmap, of clones that share its words, are true.
+// Reads two places and a number of bits from the next words. Returns the text of the number of
+// indices at which two windows of `x` both have a true bit. The windows begin at the two places,
+// have that many bits, and share their words. The error is `Case` if a window is out of range.
 fn meet_shared(alloc: Global, x: &Bitmap, words: &mut Words) -> Result<String, Fault> {
     let (p, q) = read_pair(words)?;
     let n = words.read_number()?;
@@ -293,42 +319,45 @@ fn meet_shared(alloc: Global, x: &Bitmap, words: &mut Words) -> Result<String, F
     write_count(alloc, meet(alloc, &x, p, q, n))
 }
 
-// Counts the places where two windows of `n` bits of a bitmap are true.
+// Returns the number of indices at which two windows of `x` both have a true bit. The windows have
+// `n` bits and begin at places `p` and `q`. The error is `Case` if one is out of range.
 fn meet(alloc: Global, x: &Bitmap, p: usize, q: usize, n: usize) -> Result<usize, Fault> {
     let left = cut(alloc, x, p, n)?;
     count_with(&left, cut(alloc, x, q, n))
 }
 
-// Counts the places where a bitmap and another one are true, unless there is an error.
+// Returns the number of places where both bitmaps have a true bit. If `y` is an error, returns it.
+// The error is `Case` if the lengths differ.
 fn count_with(x: &Bitmap, y: Result<Bitmap, Fault>) -> Result<usize, Fault> {
     count_both(x, &y?)
 }
 
-// Returns the text of a count, unless there is an error.
+// Returns the text of a count. If `count` is an error, returns it.
 fn write_count(alloc: Global, count: Result<usize, Fault>) -> Result<String, Fault> {
     write_value(alloc, count?)
 }
 
-// Creates false bits; the next word is their number.
+// Reads a number from the next word, and creates a bitmap of that many false bits.
 fn read_zeroed(alloc: Global, words: &mut Words) -> Result<Bitmap, Fault> {
     Bitmap::new_zeroed(alloc, words.read_number()?).map_err(Fault::from)
 }
 
-// Creates bits of one value; the next words are the value and the number.
+// Reads a truth value and a number from the next words, and creates a bitmap of that many bits of
+// this value.
 fn read_filled(alloc: Global, words: &mut Words) -> Result<Bitmap, Fault> {
     let value = read_truth(words)?;
     let n = words.read_number()?;
     Bitmap::new_with_value(alloc, value, n).map_err(Fault::from)
 }
 
-// Reads a value and a length, and returns the count of set bits of a bitmap of that length whose
-// bits all have that value.
+// Reads a truth value and a number from the next words, creates a bitmap of that many bits of this
+// value, and returns the text of the number of true bits.
 fn count_filled(alloc: Global, words: &mut Words) -> Result<String, Fault> {
     let bits = read_filled(alloc, words)?;
     write_value(alloc, bits.set_bits())
 }
 
-// Creates the bits of truth values.
+// Reads a count and that many truth values from the next words, and creates a bitmap of these.
 fn read_bools(alloc: Global, words: &mut Words) -> Result<Bitmap, Fault> {
     let count: usize = words.read_number()?;
     let mut values = Vec::new(alloc);
@@ -338,7 +367,8 @@ fn read_bools(alloc: Global, words: &mut Words) -> Result<Bitmap, Fault> {
     Bitmap::from_bools(alloc, &values).map_err(Fault::from)
 }
 
-// Creates the bits of words from a bit on.
+// Reads a count and that many 64-bit words, then a place and a number of bits. Creates a bitmap of
+// that many bits of the words from that place on. The error is `Case` if they are out of range.
 fn read_words(alloc: Global, words: &mut Words) -> Result<Bitmap, Fault> {
     let numbers = read_numbers::<u64>(alloc, words)?;
     let (at, n) = read_pair(words)?;
@@ -348,7 +378,9 @@ fn read_words(alloc: Global, words: &mut Words) -> Result<Bitmap, Fault> {
     }
 }
 
-// Packs the bits of a bitmap one by one, and returns them and the sum of their costs.
+// Creates a bitmap from the bits of another one, which are read one by one, each with its cost.
+// Returns the text of the bitmap and of the sum of the costs. If `costs` is an error, returns it.
+// The error is `Case` if there are not as many costs as bits.
 fn of_counted(
     alloc: Global,
     bits: &Bitmap,
@@ -357,7 +389,9 @@ fn of_counted(
     write_costly(alloc, bits, &costs?)
 }
 
-// Packs the bits of a bitmap one by one, if there is a cost for each.
+// Creates a bitmap from the bits of another one, which are read one by one, each with its cost.
+// Returns the text of the bitmap and of the sum of the costs. The error is `Case` if there are not
+// as many costs as bits.
 fn write_costly(alloc: Global, bits: &Bitmap, costs: &[usize]) -> Result<String, Fault> {
     if costs.len() != bits.len() {
         return Err(Fault::Case);
@@ -365,7 +399,7 @@ fn write_costly(alloc: Global, bits: &Bitmap, costs: &[usize]) -> Result<String,
     write_counted(alloc, &CostlyBits { bits, costs })
 }
 
-// Reads the costs of bits.
+// Reads a count and that many costs from the next words.
 fn read_costs(alloc: Global, words: &mut Words) -> Result<Vec<usize>, Fault> {
     let count: usize = words.read_number()?;
     let mut costs = Vec::new(alloc);
@@ -375,7 +409,8 @@ fn read_costs(alloc: Global, words: &mut Words) -> Result<Vec<usize>, Fault> {
     Ok(costs)
 }
 
-// Packs bits one by one, and returns them and the sum of their costs.
+// Creates a bitmap from `values`, which are read one by one. Returns the text of the bitmap and of
+// the sum of the costs.
 fn write_counted(alloc: Global, values: &CostlyBits) -> Result<String, Fault> {
     let mut steps = Steps::new();
     let mut text = write_made(alloc, Bitmap::from_counted(alloc, values, &mut steps))?;

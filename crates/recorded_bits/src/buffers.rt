@@ -1,18 +1,19 @@
 //! Calls on buffers.
 //!
-//! A call is `buffer TYPE N NUMBER.. OPERATION..`, for a buffer that owns N numbers, up to the
-//! operation `end`. The result is the results of the operations, one after the other.
+//! A call is `buffer TYPE N NUMBER.. OPERATION..`. It creates a buffer that owns the N numbers, and
+//! applies the operations to it. The last operation is `end`. The call returns the results of the
+//! operations in order. These are the operations and their results:
 //!
-//! - `slice AT N`: none; keeps the N elements from place AT on
-//! - `share`: none; makes the elements shared with later clones
-//! - `clone`: none; the next operations are those of a clone
-//! - `get_mut I NUMBER`: `some` if the buffer owns its elements, and then sets element I to the
-//!   number; otherwise `none`
-//! - `as_mut_slice I NUMBER`: none; sets element I to the number
+//! - `slice AT N`: no result; keeps only the N elements from place AT on
+//! - `share`: no result; makes later clones share the elements instead of copying them
+//! - `clone`: no result; clones the buffer. The next operations are applied to the clone
+//! - `get_mut I NUMBER`: if the buffer owns its elements, sets element I to NUMBER and returns
+//!   `some`; otherwise returns `none`
+//! - `as_mut_slice I NUMBER`: no result; sets element I to NUMBER. The buffer must own its elements
 //! - `is_owned`: whether the buffer owns its elements
 //! - `len`: the number of elements
 //! - `list`: the elements
-//! - `first`: the elements of the buffer that was cloned last
+//! - `first`: the elements of the original of the last clone
 
 use crate::answer_text::{Told, write_numbers};
 use crate::bits::{is_within, read_pair};
@@ -27,14 +28,15 @@ use std::fmt::Display;
 use std::mem::replace;
 use std::str::FromStr;
 
-// A buffer, and the one that was cloned last.
+// The buffer of the next operation, and in `first` the original of the last clone, if a `clone` was
+// made.
 #[derive(Drop)]
 struct Clones<T: NativeType> {
     buffer: Buffer<T>,
     first: Option<Buffer<T>>,
 }
 
-// An operation on a buffer.
+// An operation on a buffer, as listed at the top of this file.
 #[derive(Clone, Copy)]
 enum Operation {
     Slice,
@@ -61,7 +63,9 @@ const OPERATIONS: [(&str, Operation); 9] = [
     ("first", Operation::First),
 ];
 
-/// Returns the results of the operations of a line.
+/// Reads a buffer from the next words, applies the operations after it, up to `end`, and returns
+/// their results. Errors are `Word` for wrong or missing words, `Case` for impossible operations,
+/// and `Memory`.
 pub fn operate<T: NativeType + Display + FromStr<Err: Drop>>(
     alloc: Global,
     words: &mut Words,
@@ -70,7 +74,8 @@ pub fn operate<T: NativeType + Display + FromStr<Err: Drop>>(
     tell(alloc, &mut clones, words)
 }
 
-// Reads the buffer of a line.
+// Reads a count and that many numbers, and returns a buffer of these numbers that was not cloned
+// yet.
 fn read_clones<T: NativeType + FromStr<Err: Drop>>(
     alloc: Global,
     words: &mut Words,
@@ -82,7 +87,7 @@ fn read_clones<T: NativeType + FromStr<Err: Drop>>(
     })
 }
 
-// Applies the operations before `end`, and returns their results.
+// Reads operations up to `end`, applies them to `clones`, and returns the text of their results.
 fn tell<T: NativeType + Display + FromStr<Err: Drop>>(
     alloc: Global,
     clones: &mut Clones<T>,
@@ -93,7 +98,7 @@ fn tell<T: NativeType + Display + FromStr<Err: Drop>>(
     Ok(told.into_text())
 }
 
-// Applies the operations before `end`, and appends their results.
+// Reads operations up to `end`, applies them to `clones`, and appends their results to `told`.
 fn apply_all<T: NativeType + Display + FromStr<Err: Drop>>(
     alloc: Global,
     clones: &mut Clones<T>,
@@ -109,7 +114,8 @@ fn apply_all<T: NativeType + Display + FromStr<Err: Drop>>(
     Ok(())
 }
 
-// Applies an operation, and appends its result.
+// Applies an operation to `clones`, and appends its result, if it has one, to `told`. The operands
+// are read from `words`. If `operation` is an error, returns it.
 fn apply<T: NativeType + Display + FromStr<Err: Drop>>(
     alloc: Global,
     clones: &mut Clones<T>,
@@ -130,21 +136,24 @@ fn apply<T: NativeType + Display + FromStr<Err: Drop>>(
     }
 }
 
-// Makes the elements of a buffer shared with later clones.
+// Makes later clones of `buffer` use its memory instead of copying the elements. If this fails,
+// `buffer` is left empty.
 fn share<T: NativeType>(alloc: Global, buffer: &mut Buffer<T>) -> Result<(), Fault> {
     let elements = replace(buffer, Buffer::from_vec(Vec::new(alloc)));
     *buffer = elements.share(alloc)?;
     Ok(())
 }
 
-// Replaces the buffer by a clone, and keeps it as the one that was cloned last.
+// Clones the buffer. The next operations are applied to the clone, and `first` becomes the
+// original.
 fn clone<T: NativeType>(alloc: Global, clones: &mut Clones<T>) -> Result<(), Fault> {
     let copy = clones.buffer.clone_buffer(alloc)?;
     clones.first = Some(replace(&mut clones.buffer, copy));
     Ok(())
 }
 
-// Returns the elements of the buffer that was cloned last.
+// Returns the text of the elements of `first`, the original of the last clone. The error is `Case`
+// if there is none.
 fn list<T: NativeType + Display>(
     alloc: Global,
     first: &Option<Buffer<T>>,
@@ -155,7 +164,8 @@ fn list<T: NativeType + Display>(
     }
 }
 
-// Keeps elements of a buffer, if it has them.
+// Keeps only a window of `buffer`; `places` are the place where the window begins and its length.
+// If `places` is an error, returns it. The error is `Case` if the window is out of range.
 fn slice<T: NativeType>(
     buffer: &mut Buffer<T>,
     places: Result<(usize, usize), Fault>,
@@ -168,7 +178,7 @@ fn slice<T: NativeType>(
     Ok(())
 }
 
-// Writes an element, if it exists.
+// Sets element `i` to `element`. The error is `Case` if there is no element `i`.
 fn write_at<T: NativeType>(elements: &mut [T], i: usize, element: T) -> Result<(), Fault> {
     if i >= elements.len() {
         return Err(Fault::Case);
@@ -177,8 +187,9 @@ fn write_at<T: NativeType>(elements: &mut [T], i: usize, element: T) -> Result<(
     Ok(())
 }
 
-// Writes an element and returns `some` if the buffer owns its elements, and returns `none`
-// otherwise.
+// If the buffer owns its elements, sets one of them and returns `some`; otherwise returns `none`.
+// `written` has the index and the new element; if it is an error, returns it. The error is `Case`
+// if the buffer owns its elements and the index is out of range.
 fn write_if_owned<T: NativeType>(
     buffer: &mut Buffer<T>,
     written: Result<(usize, T), Fault>,
@@ -190,7 +201,9 @@ fn write_if_owned<T: NativeType>(
     }
 }
 
-// Writes an element of a buffer, which must own its elements.
+// Sets an element of `buffer`. `written` has the index and the new element; if it is an error,
+// returns it. The error is `Case` if the buffer does not own its elements or the index is out of
+// range.
 fn write_owned<T: NativeType>(
     buffer: &mut Buffer<T>,
     written: Result<(usize, T), Fault>,

@@ -1,11 +1,13 @@
 //! Calls on bitmap builders.
 //!
-//! A call is `builder N OPERATION..`, for a builder with room for N bits, up to the operation
-//! `freeze`. The result is the results of the operations, one after the other.
+//! A call is `builder N OPERATION..`. It creates a builder with room for N bits, and applies the
+//! operations to it. The last operation is `freeze`. The call returns the results of the operations
+//! in order. These are the operations and their results:
 //!
-//! - `push VALUE`: none; pushes a bit
-//! - `fill N VALUE`: none; pushes N bits of one value
-//! - `values X`, `wide_values X`: none; pushes the bits of X, packed one by one
+//! - `push VALUE`: no result; pushes the bit VALUE, which is `true` or `false`
+//! - `fill N VALUE`: no result; pushes N bits that are all VALUE
+//! - `values X`, `wide_values X`: no result; pushes the bits of X, which are read one by one. With
+//!   `wide_values`, they are packed like the results of comparisons of wide elements
 //! - `len`: the number of bits
 //! - `room N`: whether N more bits fit
 //! - `fallen`: the decrease of the room since the builder was created
@@ -21,7 +23,7 @@ use recorded_text::names::find_word;
 use recorded_text::words::Words;
 use std::alloc::Global;
 
-// An operation on a builder.
+// An operation on a builder, as listed at the top of this file.
 #[derive(Clone, Copy)]
 enum Operation {
     Push,
@@ -44,26 +46,30 @@ const OPERATIONS: [(&str, Operation); 7] = [
     ("fallen", Operation::Fallen),
 ];
 
-/// Returns the results of the operations of a line.
+/// Reads the capacity of a builder from the next word, applies the operations after it, up to
+/// `freeze`, and returns their results. The last result is the text of all bits. Errors are `Word`
+/// for wrong or missing words, `Case` if bits don't fit, and `Memory`.
 pub fn operate(alloc: Global, words: &mut Words) -> Result<String, Fault> {
     let mut builder = read_builder(alloc, words)?;
     let told = tell(alloc, &mut builder, words);
     write_told(alloc, told, &builder.freeze())
 }
 
-// Creates a builder; the next word is its room.
+// Reads a number of bits from the next word, and creates an empty builder with room for that many.
 fn read_builder(alloc: Global, words: &mut Words) -> Result<BitmapBuilder, Fault> {
     BitmapBuilder::with_capacity(alloc, words.read_number()?).map_err(Fault::from)
 }
 
-// Applies the operations before `freeze`, and returns their results.
+// Reads operations up to `freeze`, applies them to `builder`, and returns their results. `freeze`
+// itself is not applied.
 fn tell(alloc: Global, builder: &mut BitmapBuilder, words: &mut Words) -> Result<Told, Fault> {
     let mut told = Told::new(alloc);
     apply_all(alloc, builder, words, &mut told)?;
     Ok(told)
 }
 
-// Applies the operations before `freeze`, and appends their results.
+// Reads operations up to `freeze`, applies them to `builder`, and appends their results to `told`.
+// `freeze` itself is not applied.
 fn apply_all(
     alloc: Global,
     builder: &mut BitmapBuilder,
@@ -87,7 +93,9 @@ fn apply_all(
     Ok(())
 }
 
-// Applies an operation to a builder that had `room` at first, and appends its result.
+// Applies an operation to `builder`, and appends its result, if it has one, to `told`. `room` is
+// the room of the builder before the first operation. The operands are read from `words`. If
+// `operation` is an error, returns it.
 fn apply(
     alloc: Global,
     builder: &mut BitmapBuilder,
@@ -107,7 +115,7 @@ fn apply(
     }
 }
 
-// Appends whether `n` more bits fit.
+// Appends to `told` whether `n` more bits fit in the builder. If `n` is an error, returns it.
 fn tell_room(
     alloc: Global,
     builder: &BitmapBuilder,
@@ -117,18 +125,21 @@ fn tell_room(
     told.add_value(alloc, n? <= builder.room())
 }
 
-// Pushes a truth value, unless there is an error.
+// Pushes the bit `value`. If `value` is an error, returns it. The error is `Case` if there is no
+// room.
 fn push_truth(builder: &mut BitmapBuilder, value: Result<bool, Fault>) -> Result<(), Fault> {
     push(builder, value?)
 }
 
-// Pushes bits of one value; the next words are the number and the value.
+// Reads a number and a truth value from the next words, and pushes that many bits of this value.
+// The error is `Case` if there is not enough room.
 fn fill_read(builder: &mut BitmapBuilder, words: &mut Words) -> Result<(), Fault> {
     let n = words.read_number()?;
     fill(builder, n, read_truth(words)?)
 }
 
-// Pushes bits, packed one by one, unless there is an error.
+// Pushes the bits in `bits`, which the builder reads one by one; `wide` is as in `SingleBits`. If
+// `bits` is an error, returns it. The error is `Case` if there is not enough room.
 fn push_read(
     builder: &mut BitmapBuilder,
     bits: Result<Bitmap, Fault>,
@@ -137,7 +148,7 @@ fn push_read(
     push_all(builder, &bits?, wide)
 }
 
-/// Pushes one bit, if there is room.
+/// Pushes the bit `value`. The error is `Case` if there is no room.
 pub fn push(builder: &mut BitmapBuilder, value: bool) -> Result<(), Fault> {
     if builder.room() == 0 {
         return Err(Fault::Case);
@@ -146,7 +157,7 @@ pub fn push(builder: &mut BitmapBuilder, value: bool) -> Result<(), Fault> {
     Ok(())
 }
 
-/// Pushes one bit `n` times, if there is room.
+/// Pushes `n` bits that are all `value`. The error is `Case` if there is not enough room.
 pub fn fill(builder: &mut BitmapBuilder, n: usize, value: bool) -> Result<(), Fault> {
     if builder.room() < n {
         return Err(Fault::Case);
@@ -155,7 +166,8 @@ pub fn fill(builder: &mut BitmapBuilder, n: usize, value: bool) -> Result<(), Fa
     Ok(())
 }
 
-/// Pushes the bits of a bitmap, packed one by one, if there is room.
+/// Pushes the bits of a bitmap, which the builder reads one by one; `wide` is as in `SingleBits`.
+/// The error is `Case` if there is not enough room.
 pub fn push_all(builder: &mut BitmapBuilder, bits: &Bitmap, wide: bool) -> Result<(), Fault> {
     if builder.room() < bits.len() {
         return Err(Fault::Case);

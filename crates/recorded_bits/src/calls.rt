@@ -1,22 +1,22 @@
-//! The calls by name.
+//! The calls of this crate with their names.
 
 use crate::comparisons::Compared;
 use crate::numbers::{OfOffset, OfType};
 use crate::operators::{Merge, Operator};
 use crate::{bits, masks};
 
-/// A call.
+/// A call of this crate, without the operands.
 #[derive(Clone, Copy)]
 pub enum Call {
-    /// A call on the number type that the next word names.
+    /// A call on the number type named by the next word.
     NumberType(OfType),
-    /// The place of an offset.
+    /// A call that returns the place of an offset.
     Offset(OfOffset),
-    /// The entry of a key.
+    /// The index of the entry to which a key refers.
     Key,
-    /// The count of a counter.
+    /// The value of a counter made by `new`, after numbers were added.
     Steps,
-    /// The count of a counter made by `default`.
+    /// The value of a counter made by `default`, after numbers were added.
     DefaultSteps,
     /// A call on bitmaps.
     Bits(bits::Asked),
@@ -30,13 +30,13 @@ pub enum Call {
     Buffer,
     /// A comparison of numbers.
     Compared(Compared),
-    /// The text of an error of a computation.
+    /// The text of a computation error.
     ComputeError,
-    /// The text of an error of the parts of an array.
+    /// The text of an array error.
     ArrayError,
-    /// The sum of the results of a call at all places.
+    /// A sum over the results of a call at many places in words.
     Sweep,
-    /// The sum of the results of blocks at all places.
+    /// A sum over the results of `all_in_blocks` at many places in words.
     SweepOfBlocks,
 }
 

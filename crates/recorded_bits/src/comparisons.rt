@@ -2,13 +2,15 @@
 //! `greater` or `greater_or_equal`, and a LIST is a count and that many numbers.
 //!
 //! - `compare COMPARISON TYPE LEFT RIGHT`: whether the comparison holds of two numbers
-//! - `packs_in_registers COMPARISON TYPE`: whether the numbers have more than 64 bits
-//! - `compare_pairs COMPARISON TYPE LIST LIST`: for two lists of equal length, whether it holds at
-//!   each place
-//! - `compare_windows COMPARISON TYPE LIST AT LIST AT N`: for N numbers of each list from a place
-//!   on, whether it holds at each place
-//! - `compare_constant COMPARISON TYPE LIST NUMBER`: for each number of a list, whether it holds of
-//!   it and the last number
+//! - `packs_in_registers COMPARISON TYPE`: whether results are packed in registers, as they are for
+//!   numbers of more than 64 bits
+//! - `compare_pairs COMPARISON TYPE LIST LIST`: for each place of two lists of equal length,
+//!   whether the comparison holds of the two numbers there
+//! - `compare_windows COMPARISON TYPE LIST AT LIST AT N`: for each place of two windows of N
+//!   numbers, whether the comparison holds of the two numbers there. Each window begins at place AT
+//!   of the list before it
+//! - `compare_constant COMPARISON TYPE LIST NUMBER`: for each number of the list, whether the
+//!   comparison holds of that number and NUMBER
 
 use crate::answer_text::write_value;
 use crate::bits::{is_within, read_pair};
@@ -27,7 +29,8 @@ use recorded_text::words::Words;
 use std::alloc::Global;
 use std::str::FromStr;
 
-/// A call of a comparison.
+/// A call listed at the top of this file: `Two` is `compare`, `Pairs` is `compare_pairs`, and so
+/// on.
 #[derive(Clone, Copy)]
 pub enum Compared {
     Two,
@@ -37,7 +40,7 @@ pub enum Compared {
     Constant,
 }
 
-/// A comparison.
+/// A comparison of two numbers.
 #[derive(Clone, Copy)]
 pub enum Test {
     Equal,
@@ -58,13 +61,15 @@ const TESTS: [(&str, Test); 6] = [
     ("greater_or_equal", Test::GreaterOrEqual),
 ];
 
-/// Returns the result of a call, for the comparison and the type that the next words name.
+/// Reads the name of a comparison and a number type from the next words, and returns the result of
+/// the call `compared` for these. The operands are read from the words after them.
 pub fn by_name(alloc: Global, compared: Compared, words: &mut Words) -> Result<String, Fault> {
     let test = find_word(&TESTS, words.read()?)?;
     ask_next(alloc, Asked::Compared(compared, test), words)
 }
 
-/// Returns the result of a call of a comparison.
+/// Returns the result of the call `compared` for the comparison `test` of numbers of type `T`. The
+/// operands are read from `words`.
 pub fn by_test<T: NativeType + FromStr<Err: Drop>>(
     alloc: Global,
     compared: Compared,
@@ -81,6 +86,7 @@ pub fn by_test<T: NativeType + FromStr<Err: Drop>>(
     }
 }
 
+// Returns the result of the call `compared` for `comparison`. The operands are read from `words`.
 fn ask<T: NativeType + FromStr<Err: Drop>, E: Comparison<T, T>>(
     alloc: Global,
     compared: Compared,
@@ -96,7 +102,7 @@ fn ask<T: NativeType + FromStr<Err: Drop>, E: Comparison<T, T>>(
     }
 }
 
-// Compares two numbers.
+// Reads two numbers, and returns `true` or `false` as a text: whether `comparison` holds of them.
 fn two<T: NativeType + FromStr<Err: Drop>, E: Comparison<T, T>>(
     alloc: Global,
     comparison: &E,
@@ -106,7 +112,9 @@ fn two<T: NativeType + FromStr<Err: Drop>, E: Comparison<T, T>>(
     write_value(alloc, comparison.compare(left, right))
 }
 
-// Compares two lists, place by place.
+// Reads two lists of numbers, and returns the text of the bits of their comparison. Each bit says
+// whether the comparison holds of the two numbers at a place. The error is `Case` if the lists have
+// different lengths.
 fn pairs<T: NativeType + FromStr<Err: Drop>, E: Comparison<T, T>>(
     alloc: Global,
     comparison: &E,
@@ -117,7 +125,8 @@ fn pairs<T: NativeType + FromStr<Err: Drop>, E: Comparison<T, T>>(
     write_pairs(alloc, comparison, left.as_slice(), right.as_slice())
 }
 
-// Compares two lists, place by place, if they have equal lengths.
+// Returns the text of the bits of the comparison of two lists. Each bit says whether the comparison
+// holds of the two numbers at a place. The error is `Case` if the lists have different lengths.
 fn write_pairs<T: NativeType, E: Comparison<T, T>>(
     alloc: Global,
     comparison: &E,
@@ -130,14 +139,14 @@ fn write_pairs<T: NativeType, E: Comparison<T, T>>(
     write_made(alloc, compare_pairs(alloc, comparison, left, right))
 }
 
-// A list of numbers, and a place in it.
+// A list of numbers, and the place in it where a window begins.
 #[derive(Drop)]
 struct Part<T: NativeType> {
     numbers: Buffer<T>,
     at: usize,
 }
 
-// Reads a list, and a place in it.
+// Reads a list of numbers, and the place where a window of it begins. Does not check the place.
 fn read_part<T: NativeType + FromStr<Err: Drop>>(
     alloc: Global,
     words: &mut Words,
@@ -147,7 +156,9 @@ fn read_part<T: NativeType + FromStr<Err: Drop>>(
     Ok(Part { numbers, at })
 }
 
-// Compares two windows, place by place.
+// Reads two lists, each followed by the place where a window begins, and the length of both
+// windows. Returns the text of the bits of the comparison of the windows. Each bit says whether the
+// comparison holds of the two numbers at a place. The error is `Case` if a window is out of range.
 fn windows<T: NativeType + FromStr<Err: Drop>, E: Comparison<T, T>>(
     alloc: Global,
     comparison: &E,
@@ -158,8 +169,9 @@ fn windows<T: NativeType + FromStr<Err: Drop>, E: Comparison<T, T>>(
     write_windows(alloc, comparison, &left, &right, words.read_number())
 }
 
-// Compares two windows of `count` numbers, place by place. If `count` is an error, returns it. The
-// error is `Case` if a window is out of range.
+// Returns the text of the bits of the comparison of two windows of `count` numbers. Each bit says
+// whether the comparison holds of the two numbers at a place. If `count` is an error, returns it.
+// The error is `Case` if a window is out of range.
 fn write_windows<T: NativeType, E: Comparison<T, T>>(
     alloc: Global,
     comparison: &E,
@@ -177,7 +189,8 @@ fn write_windows<T: NativeType, E: Comparison<T, T>>(
     write_made(alloc, compare_pairs(alloc, comparison, these, those))
 }
 
-// Compares the numbers of a list with one number.
+// Reads a list and one more number, and returns the text of a bit for each number of the list,
+// which says whether `comparison` holds of it and the last number.
 fn constant<T: NativeType + FromStr<Err: Drop>, E: Comparison<T, T>>(
     alloc: Global,
     comparison: &E,

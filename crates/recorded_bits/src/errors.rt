@@ -1,10 +1,10 @@
-//! The texts of errors.
+//! Calls that return the texts of errors.
 //!
 //! - `compute_error memory`, `compute_error unsupported`, `compute_error key KEY LEN`: the text of
-//!   an error of a computation
+//!   a computation error. In the last one, KEY is a key of a dictionary with LEN entries
 //! - `array_error length`, `array_error offsets ROW`, `array_error field AT`,
 //!   `array_error view ROW`, `array_error not_utf8 ROW`, `array_error key ROW`: the text of an
-//!   error of the parts of an array
+//!   array error. AT is the number of a field
 
 use crate::bits::read_pair;
 use polars_arrays_bits::error::{ArrayError, ComputeError};
@@ -13,21 +13,22 @@ use recorded_text::words::Words;
 use std::alloc::{AllocError, Global};
 use std::fmt::Display;
 
-/// Returns the text of the computation error that the next words name.
+/// Reads a computation error from the next words, and returns the text of this error.
 pub fn write_compute_error(alloc: Global, words: &mut Words) -> Result<String, Fault> {
     write_error(alloc, read_compute_error(words))
 }
 
-/// Returns the text of the array error that the next words name.
+/// Reads an array error from the next words, and returns the text of this error.
 pub fn write_array_error(alloc: Global, words: &mut Words) -> Result<String, Fault> {
     write_error(alloc, read_array_error(words))
 }
 
-// Returns the text of an error, if the words name one.
+// Returns the text of an error that was read. If reading it failed, returns the fault.
 fn write_error<E: Display + Drop>(alloc: Global, error: Result<E, Fault>) -> Result<String, Fault> {
     error?.to_string(alloc).map_err(Fault::from)
 }
 
+// Reads a computation error: `memory`, `unsupported`, or `key` with a key and a number of entries.
 fn read_compute_error(words: &mut Words) -> Result<ComputeError, Fault> {
     match words.read()? {
         "memory" => Ok(ComputeError::Memory(AllocError)),
@@ -37,11 +38,14 @@ fn read_compute_error(words: &mut Words) -> Result<ComputeError, Fault> {
     }
 }
 
+// Reads a key and a number of entries, and returns the error that says that the key is out of
+// range.
 fn read_key_error(words: &mut Words) -> Result<ComputeError, Fault> {
     let (key, len) = read_pair(words)?;
     Ok(ComputeError::KeyOutOfRange { key, len })
 }
 
+// Reads an array error: `length`, or another name with the number of a row or field.
 fn read_array_error(words: &mut Words) -> Result<ArrayError, Fault> {
     match words.read()? {
         "length" => Ok(ArrayError::Length),
@@ -49,7 +53,8 @@ fn read_array_error(words: &mut Words) -> Result<ArrayError, Fault> {
     }
 }
 
-// Returns the error of a name, with a place.
+// Returns the array error with the given name, at row or field `at`. The error is `Word` if no
+// error with a row or field has this name.
 fn error_at(name: &str, at: usize) -> Result<ArrayError, Fault> {
     match name {
         "offsets" => Ok(ArrayError::Offsets { row: at }),

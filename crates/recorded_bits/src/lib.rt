@@ -1,5 +1,5 @@
-//! Recorded cases of numbers, bitmaps, masks, builders, buffers and comparisons of slices: calls
-//! whose operands are written out in a line.
+//! Recorded cases of numbers, bitmaps, masks, builders, buffers and comparisons of slices. A case
+//! is a line of text with the name of a call and the operands of the call.
 #![tactic(auto)]
 
 mod answer_text;
@@ -25,7 +25,8 @@ use recorded_text::names::find;
 use recorded_text::words::Words;
 use std::alloc::Global;
 
-/// Returns the result of a call of these subjects, or `None` for any other call.
+/// Returns the result of the call named `call`, or `None` if this crate has no call with that name.
+/// The operands of the call are read from `words`.
 pub fn answer(alloc: Global, call: &str, words: &mut Words) -> Result<Option<String>, Fault> {
     match find(&CALLS, call) {
         Some(call) => ask(alloc, call, words).map(Some),
@@ -33,7 +34,7 @@ pub fn answer(alloc: Global, call: &str, words: &mut Words) -> Result<Option<Str
     }
 }
 
-// Returns the result of a call.
+// Returns the result of `call`. The operands of the call are read from `words`.
 fn ask(alloc: Global, call: Call, words: &mut Words) -> Result<String, Fault> {
     match call {
         Call::NumberType(asked) => ask_next(alloc, Asked::Type(asked), words),

@@ -1,19 +1,21 @@
-//! Calls on borrowed windows of bitmaps. A MASK is three words: bits, the place where its window
-//! begins, and the number of its bits.
+//! Calls on borrowed windows of bitmaps. A MASK is three words: a bitmap, the place where a window
+//! of the bitmap begins, and the number of bits in the window.
 //!
 //! - `mask_and MASK MASK`, `mask_or`, `mask_xor`, `mask_xnor`, `mask_and_not`, `mask_or_not`: the
-//!   bits of the operator on two windows of one length
+//!   operator applied to the bits of two windows of equal length at each index
 //! - `mask_not MASK`: the negated bits
-//! - `mask_merge_eq MASK MASK MASK`, `mask_merge_ne MASK MASK MASK`: equality and inequality of
-//!   rows by their values' bits and presence
+//! - `mask_merge_eq MASK MASK MASK`, `mask_merge_ne MASK MASK MASK`: for each row, whether two
+//!   sides are equal, or differ. The first mask says which stored values are equal, or differ; the
+//!   others say which rows of the left and the right side are present
 //! - `to_bitmap MASK`: the bits
 //! - `window MASK AT N`: the N bits from place AT on
 //! - `mask_len MASK`, `mask_unset_bits MASK`: the number of bits, and of false bits
 //! - `mask_get MASK I`: bit I
-//! - `few_bits MASK AT N`: the N bits from place AT on as a number, the first one lowest
+//! - `few_bits MASK AT N`: the N bits from place AT on, as a number whose lowest bit is the first
+//!   one
 //! - `all_set MASK AT N`: whether the N bits from place AT on are all true
-//! - `all_in_blocks MASK WIDTH N`: for each of N blocks of WIDTH bits, whether all its bits are
-//!   true
+//! - `all_in_blocks MASK WIDTH N`: for each of the first N blocks of WIDTH bits, whether all bits
+//!   of the block are true
 
 ghost use Rattle.std.specs.Prelude.{◌≡◌, ◌+◌, ◌≤◌, length, IfOk};
 
@@ -27,7 +29,8 @@ use recorded_text::fault::Fault;
 use recorded_text::words::Words;
 use std::alloc::Global;
 
-/// A call on one window.
+/// A call on one window, as listed at the top of this file. `Bits` is `to_bitmap`, and `Blocks` is
+/// `all_in_blocks`.
 #[derive(Clone, Copy)]
 pub enum OfOne {
     Not,
@@ -41,7 +44,7 @@ pub enum OfOne {
     Blocks,
 }
 
-/// A call on windows.
+/// A call on one window, or one that combines two or merges three of equal length.
 #[derive(Clone, Copy)]
 pub enum Asked {
     One(OfOne),
@@ -49,7 +52,8 @@ pub enum Asked {
     Merged(Merge),
 }
 
-/// Returns the result of a call on the windows of the next words.
+/// Reads the windows of the call `asked` from the next words, and returns the result of the call.
+/// Other operands are read from the words after the windows.
 pub fn ask(alloc: Global, asked: Asked, words: &mut Words) -> Result<String, Fault> {
     match asked {
         Asked::One(of_one) => ask_next(alloc, of_one, words),
@@ -58,7 +62,7 @@ pub fn ask(alloc: Global, asked: Asked, words: &mut Words) -> Result<String, Fau
     }
 }
 
-// Reads `count` windows from the next words.
+// Reads `count` windows from the next words, each of them from three words.
 fn read_windows(alloc: Global, words: &mut Words, count: usize) -> Result<Vec<Window>, Fault> {
     let mut windows = Vec::new(alloc);
     for _ in 0..count {
@@ -67,7 +71,8 @@ fn read_windows(alloc: Global, words: &mut Words, count: usize) -> Result<Vec<Wi
     Ok(windows)
 }
 
-// Returns the result of a call on windows that were read.
+// Returns the result of the call `asked` on two or three windows. If `operands` is an error,
+// returns it. The error is `Case` if the lengths differ or there are not as many as the call needs.
 fn ask_more(
     alloc: Global,
     asked: Asked,
@@ -76,7 +81,8 @@ fn ask_more(
     ask_all(alloc, asked, &operands?)
 }
 
-// Returns the result of a call on two or three windows.
+// Returns the result of the call `asked` on two or three windows. The error is `Case` if the
+// lengths differ or there are not as many as the call needs.
 fn ask_all(alloc: Global, asked: Asked, operands: &[Window]) -> Result<String, Fault> {
     match (asked, operands) {
         (Asked::Combined(operator), [x, y]) => {
@@ -92,7 +98,7 @@ fn ask_all(alloc: Global, asked: Asked, operands: &[Window]) -> Result<String, F
     }
 }
 
-/// Returns a window of bits, if it is in range.
+/// Returns the window of `n` bits from place `at` on. The error is `Case` if it is out of range.
 pub fn window_of<'a>(bits: &'a Bitmap, at: usize, n: usize) -> Result<BitMask<'a>, Fault>
     ensures { IfOk result (λ mask. length mask ≡ n) }
 {
@@ -102,7 +108,7 @@ pub fn window_of<'a>(bits: &'a Bitmap, at: usize, n: usize) -> Result<BitMask<'a
     Ok(BitMask::from_bitmap(bits).window(at, n))
 }
 
-// Bits, and a window of them.
+// A bitmap, and a window of it: the `n` bits from place `at` on.
 #[derive(Drop)]
 struct Window {
     bits: Bitmap,
@@ -112,7 +118,8 @@ struct Window {
 }
 
 impl Window {
-    // Reads bits and a window from the next three words.
+    // Reads a bitmap, and the place and the length of a window of it, from the next three words.
+    // The error is `Case` if the window is out of range.
     fn read(alloc: Global, words: &mut Words) -> Result<Window, Fault> {
         let bits = read_bitmap(alloc, words)?;
         let (at, n) = read_pair(words)?;
@@ -122,13 +129,14 @@ impl Window {
         Ok(Window { bits, at, n })
     }
 
-    // Borrows the window.
+    // Returns the window as a mask that borrows the bits.
     fn mask(&self) -> BitMask<'_> {
         BitMask::from_bitmap(&self.bits).window(self.at, self.n)
     }
 }
 
-/// Applies an operator to the bits of two windows, which must have equal lengths.
+/// Applies `operator` to the bits of two windows at each index. The error is `Case` if the lengths
+/// differ, and `Memory` if an allocation fails.
 pub fn combine(
     alloc: Global,
     operator: Operator,
@@ -149,7 +157,9 @@ pub fn combine(
     bits.map_err(Fault::from)
 }
 
-/// Merges three windows, which must have equal lengths.
+/// Returns for each row whether two sides are equal (`Merge::Eq`) or differ (`Merge::Ne`). `q` says
+/// which stored values are equal or differ; `l` and `r` say which rows of the sides are present.
+/// The error is `Case` if the lengths differ, and `Memory` if an allocation fails.
 pub fn combine_three(
     alloc: Global,
     merge: Merge,
@@ -167,7 +177,8 @@ pub fn combine_three(
     bits.map_err(Fault::from)
 }
 
-/// Returns whether the `n` bits of a window from place `at` on are all true.
+/// Returns whether the `n` bits of `mask` from place `at` on are all true. The error is `Case` if
+/// they are out of range.
 pub fn is_all_set(mask: &BitMask<'_>, at: usize, n: usize) -> Result<bool, Fault> {
     if !is_within(at, n, mask.len()) {
         return Err(Fault::Case);
@@ -175,7 +186,9 @@ pub fn is_all_set(mask: &BitMask<'_>, at: usize, n: usize) -> Result<bool, Fault
     Ok(mask.all_set(at, n))
 }
 
-/// Returns for each block of a window whether all its bits are true.
+/// Returns a bit for each of the first `n` blocks of `width` bits, true if all bits of the block
+/// are true. The error is `Case` if `mask` is shorter than the blocks, and `Memory` if an
+/// allocation fails.
 pub fn fold_blocks(
     alloc: Global,
     mask: &BitMask<'_>,
@@ -190,13 +203,15 @@ pub fn fold_blocks(
     }
 }
 
-// Returns the result of a call on the window of the next words.
+// Reads a window from the next words, and returns the result of the call `asked` on it. Other
+// operands are read from the words after the window.
 fn ask_next(alloc: Global, asked: OfOne, words: &mut Words) -> Result<String, Fault> {
     let window = Window::read(alloc, words)?;
     ask_one(alloc, asked, &window.mask(), words)
 }
 
-// Returns the result of a call on one window.
+// Returns the result of the call `asked` on the window `mask`. Other operands are read from
+// `words`.
 fn ask_one(
     alloc: Global,
     asked: OfOne,
@@ -213,8 +228,10 @@ fn ask_one(
     }
 }
 
-// Returns the result of a call on a window with two numbers: a place and a number of bits, or the
-// width and the number of blocks.
+// Returns the result of the call `asked` on the window `mask`. `numbers` has a place and a number
+// of bits, or for `Blocks` the width and the number of blocks. If `numbers` is an error, returns
+// it. The error is `Case` if these bits are out of range, or if `FewBits` is called for more than
+// 64.
 fn ask_part(
     alloc: Global,
     asked: OfOne,
@@ -231,12 +248,13 @@ fn ask_part(
     }
 }
 
-// Returns the text of a truth value, unless there is an error.
+// Returns the text of a truth value. If `truth` is an error, returns it.
 fn write_truth(alloc: Global, truth: Result<bool, Fault>) -> Result<String, Fault> {
     write_value(alloc, truth?)
 }
 
-// Returns a part of a window, if it is in range.
+// Returns the text of the `n` bits of `mask` from place `at` on. The error is `Case` if they are
+// out of range.
 fn part(alloc: Global, mask: &BitMask<'_>, at: usize, n: usize) -> Result<String, Fault> {
     if !is_within(at, n, mask.len()) {
         return Err(Fault::Case);
@@ -244,7 +262,8 @@ fn part(alloc: Global, mask: &BitMask<'_>, at: usize, n: usize) -> Result<String
     write_made(alloc, mask.window(at, n).to_bitmap(alloc))
 }
 
-// Returns at most 64 bits of a window as a number, if they are in range.
+// Returns the text of the `n` bits of `mask` from place `at` on, as a number whose lowest bit is
+// the first of them. The error is `Case` if `n` is above 64 or the bits are out of range.
 fn few_bits(alloc: Global, mask: &BitMask<'_>, at: usize, n: usize) -> Result<String, Fault> {
     if n > 64 || !is_within(at, n, mask.len()) {
         return Err(Fault::Case);
@@ -252,7 +271,8 @@ fn few_bits(alloc: Global, mask: &BitMask<'_>, at: usize, n: usize) -> Result<St
     write_value(alloc, mask.few_bits(at, n))
 }
 
-// Returns bit `i`, if it exists.
+// Returns the text of bit `i` of `mask`. If `i` is an error, returns it. The error is `Case` if `i`
+// is out of range.
 fn bit(alloc: Global, mask: &BitMask<'_>, i: Result<usize, Fault>) -> Result<String, Fault> {
     let i = i?;
     if i >= mask.len() {

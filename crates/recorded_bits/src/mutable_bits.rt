@@ -1,18 +1,22 @@
 //! Calls on bitmaps that are changed in place.
 //!
 //! A call is `mutable zeroed N OPERATION..`, `mutable set N OPERATION..` or
-//! `mutable of X OPERATION..`, for N false bits, N true bits, or the bits of X, up to the operation
-//! `freeze`. The result is the results of the operations, one after the other.
+//! `mutable of X OPERATION..`. It begins with N false bits, N true bits, or the bits of X, and
+//! applies the operations to these bits. The last operation is `freeze`. The call returns the
+//! results of the operations in order. Below, `bit` is a bit, and `x` is the bit of X at the same
+//! index. These are the operations and their results:
 //!
-//! - `set I VALUE`: none; sets bit I
-//! - `or X`: none; joins each bit with that of X by OR; X becomes a mutable bitmap
-//! - `and X`: none; joins each bit with that of X by AND
-//! - `and_values X`, `and_wide_values X`: none; joins each bit with that of X by AND; the bits of X
-//!   are packed one by one
-//! - `and_mask X`, `or_not_mask X`: none; joins each bit with that of X by AND, or with its
-//!   negation by OR
-//! - `merge_eq L R`, `merge_ne L R`: none; equality and inequality of rows, from that of their
-//!   values; L and R have the present rows
+//! - `set I VALUE`: no result; sets bit I to VALUE, which is `true` or `false`
+//! - `or X`: no result; sets each bit to `bit | x`. X is read as a mutable bitmap
+//! - `and X`: no result; sets each bit to `bit & x`
+//! - `and_values X`, `and_wide_values X`: no result; sets each bit to `bit & x`. The bits of X are
+//!   read one by one. With `and_wide_values`, they are packed like the results of comparisons of
+//!   wide elements
+//! - `and_mask X`, `or_not_mask X`: no result; sets each bit to `bit & x` or to `bit | !x`. X is
+//!   read as a mask
+//! - `merge_eq L R`, `merge_ne L R`: no result. Before, the bits say which rows of two sides have
+//!   equal (`merge_eq`) or unequal (`merge_ne`) stored values. Afterwards, they say which rows are
+//!   equal or unequal. L and R say which rows of the left and right side are present
 //! - `get I`: bit I
 //! - `len`, `count`: the number of bits, and of true bits
 //! - `freeze`: all bits
@@ -29,7 +33,8 @@ use recorded_text::names::find_word;
 use recorded_text::words::Words;
 use std::alloc::Global;
 
-// Creates the bits of a line.
+// Reads `zeroed` or `set` and a number of bits, or `of` and bits, from the next words, and creates
+// these bits. The error is `Word` if the first word is another one.
 fn begin(alloc: Global, words: &mut Words) -> Result<MutableBitmap, Fault> {
     match words.read()? {
         "zeroed" => read_zeroed(alloc, words),
@@ -39,17 +44,17 @@ fn begin(alloc: Global, words: &mut Words) -> Result<MutableBitmap, Fault> {
     }
 }
 
-// Creates false bits; the next word is their number.
+// Reads a number from the next word, and creates that many false bits.
 fn read_zeroed(alloc: Global, words: &mut Words) -> Result<MutableBitmap, Fault> {
     MutableBitmap::from_len_zeroed(alloc, words.read_number()?).map_err(Fault::from)
 }
 
-// Creates true bits; the next word is their number.
+// Reads a number from the next word, and creates that many true bits.
 fn read_set(alloc: Global, words: &mut Words) -> Result<MutableBitmap, Fault> {
     MutableBitmap::from_len_set(alloc, words.read_number()?).map_err(Fault::from)
 }
 
-// An operation on bits.
+// An operation on bits, as listed at the top of this file.
 #[derive(Clone, Copy)]
 enum Operation {
     Set,
@@ -61,7 +66,7 @@ enum Operation {
     Count,
 }
 
-// A join of bits with the bits of a bitmap.
+// An operation that joins each bit with the bit of a bitmap at the same index.
 #[derive(Clone, Copy)]
 enum Join {
     And,
@@ -87,21 +92,25 @@ const OPERATIONS: [(&str, Operation); 12] = [
     ("count", Operation::Count),
 ];
 
-/// Returns the results of the operations of a line.
+/// Reads bits from the next words, applies the operations after them, up to `freeze`, and returns
+/// their results. The last result is the text of all bits. Errors are `Word` for wrong or missing
+/// words, `Case` for wrong indices and lengths, and `Memory`.
 pub fn operate(alloc: Global, words: &mut Words) -> Result<String, Fault> {
     let mut bits = begin(alloc, words)?;
     let told = tell(alloc, &mut bits, words);
     write_told(alloc, told, &bits.freeze())
 }
 
-// Applies the operations before `freeze`, and returns their results.
+// Reads operations up to `freeze`, applies them to `bits`, and returns their results. `freeze`
+// itself is not applied.
 fn tell(alloc: Global, bits: &mut MutableBitmap, words: &mut Words) -> Result<Told, Fault> {
     let mut told = Told::new(alloc);
     apply_all(alloc, bits, words, &mut told)?;
     Ok(told)
 }
 
-// Applies the operations before `freeze`, and appends their results.
+// Reads operations up to `freeze`, applies them to `bits`, and appends their results to `told`.
+// `freeze` itself is not applied.
 fn apply_all(
     alloc: Global,
     bits: &mut MutableBitmap,
@@ -117,7 +126,8 @@ fn apply_all(
     Ok(())
 }
 
-// Applies an operation, and appends its result.
+// Applies an operation to `bits`, and appends its result, if it has one, to `told`. The operands
+// are read from `words`. If `operation` is an error, returns it.
 fn apply(
     alloc: Global,
     bits: &mut MutableBitmap,
@@ -136,7 +146,8 @@ fn apply(
     }
 }
 
-// Returns bit `i`, if it exists.
+// Returns the text of bit `i`. If `i` is an error, returns it. The error is `Case` if `i` is out of
+// range.
 fn bit(alloc: Global, bits: &MutableBitmap, i: Result<usize, Fault>) -> Result<String, Fault> {
     let i = i?;
     if i >= bits.len() {
@@ -145,13 +156,14 @@ fn bit(alloc: Global, bits: &MutableBitmap, i: Result<usize, Fault>) -> Result<S
     write_value(alloc, bits.get(i))
 }
 
-// Sets a bit; the next words are its index and value.
+// Reads an index and a truth value from the next words, and sets the bit at this index to the
+// value. The error is `Case` if the index is out of range.
 fn set_read(bits: &mut MutableBitmap, words: &mut Words) -> Result<(), Fault> {
     let i = words.read_number()?;
     set(bits, i, read_truth(words)?)
 }
 
-// Sets bit `i` to `value`, if it exists.
+// Sets bit `i` to `value`. The error is `Case` if `i` is out of range.
 fn set(bits: &mut MutableBitmap, i: usize, value: bool) -> Result<(), Fault> {
     if i >= bits.len() {
         return Err(Fault::Case);
@@ -160,14 +172,15 @@ fn set(bits: &mut MutableBitmap, i: usize, value: bool) -> Result<(), Fault> {
     Ok(())
 }
 
-// Reads bits from the next word, as a mutable bitmap.
+// Reads a bitmap from the next word, and converts it to a mutable bitmap.
 fn read_mutable(alloc: Global, words: &mut Words) -> Result<MutableBitmap, Fault> {
     read_bitmap(alloc, words)?
         .into_mut(alloc)
         .map_err(Fault::from)
 }
 
-// Joins each bit with the other's by OR, if the lengths are equal.
+// Sets each bit to true if the bit of `other` at the same index is true. If `other` is an error,
+// returns it. The error is `Case` if the lengths differ.
 fn or_assign(bits: &mut MutableBitmap, other: Result<MutableBitmap, Fault>) -> Result<(), Fault> {
     let other = other?;
     if other.len() != bits.len() {
@@ -177,7 +190,8 @@ fn or_assign(bits: &mut MutableBitmap, other: Result<MutableBitmap, Fault>) -> R
     Ok(())
 }
 
-// Joins bits with others, unless there is an error.
+// Joins each bit with the bit of `other` at the same index, as `join` says. If `other` is an error,
+// returns it. The error is `Case` if the lengths differ.
 fn join_read(
     bits: &mut MutableBitmap,
     join: Join,
@@ -186,7 +200,8 @@ fn join_read(
     join_with(bits, join, &other?)
 }
 
-// Joins each bit with the other's, if the lengths are equal.
+// Joins each bit with the bit of `other` at the same index, as `join` says. The error is `Case` if
+// the lengths differ.
 fn join_with(bits: &mut MutableBitmap, join: Join, other: &Bitmap) -> Result<(), Fault> {
     if other.len() != bits.len() {
         return Err(Fault::Case);
@@ -207,7 +222,8 @@ fn join_with(bits: &mut MutableBitmap, join: Join, other: &Bitmap) -> Result<(),
     Ok(())
 }
 
-// Merges bits with two masks, unless there is an error.
+// Merges `bits` with the masks of two sides, which are the two bitmaps in `present`. If `present`
+// is an error, returns it. The error is `Case` if the lengths differ.
 fn merge_read(
     bits: &mut MutableBitmap,
     merge: Merge,
@@ -216,7 +232,8 @@ fn merge_read(
     merge_all(bits, merge, &present?)
 }
 
-// Merges bits with the present rows of both sides.
+// Merges `bits` with the masks of two sides, which are the two bitmaps in `present`. The error is
+// `Case` if there are not two of them or the lengths differ.
 fn merge_all(bits: &mut MutableBitmap, merge: Merge, present: &[Bitmap]) -> Result<(), Fault> {
     match present {
         [left, right] => merge_masks(
@@ -229,7 +246,9 @@ fn merge_all(bits: &mut MutableBitmap, merge: Merge, present: &[Bitmap]) -> Resu
     }
 }
 
-// Merges bits with the present rows of each side, if the lengths are equal.
+// Merges `bits`, which say which rows have equal (or unequal) stored values, with the masks of both
+// sides. Afterwards, the bits say which rows are equal (or unequal). The error is `Case` if the
+// lengths differ.
 fn merge_masks(
     bits: &mut MutableBitmap,
     merge: Merge,

@@ -1,4 +1,4 @@
-//! The number types by name, and calls with numbers of one type.
+//! The number types with their names, and calls with numbers of one type.
 
 use crate::buffers;
 use crate::comparisons::{Compared, Test, by_test};
@@ -11,7 +11,7 @@ use std::alloc::Global;
 use std::fmt::Display;
 use std::str::FromStr;
 
-/// A number type.
+/// A type of numbers: a signed or unsigned integer type of 8 to 128 bits.
 #[derive(Clone, Copy)]
 pub enum NumberType {
     Int8,
@@ -40,7 +40,8 @@ const NUMBER_TYPES: [(&str, NumberType); 10] = [
     ("u128", NumberType::UInt128),
 ];
 
-/// Reads the number type that the next word names.
+/// Reads the name of a number type, such as `i8`, from the next word, and returns the type. The
+/// error is `Word` if the word is missing or names no number type.
 pub fn read_type(words: &mut Words) -> Result<NumberType, Fault> {
     find_word(&NUMBER_TYPES, words.read()?)
 }
@@ -48,15 +49,16 @@ pub fn read_type(words: &mut Words) -> Result<NumberType, Fault> {
 /// A call with numbers of one type.
 #[derive(Clone, Copy)]
 pub enum Asked {
-    /// A call on the type itself.
+    /// A call on the type itself, without operands.
     Type(OfType),
-    /// A comparison of numbers.
+    /// A call of the given kind, with the given comparison of two numbers.
     Compared(Compared, Test),
-    /// Operations on a buffer.
+    /// Operations on a buffer of numbers.
     Buffer,
 }
 
-/// Returns the result of a call for the number type that the next word names.
+/// Reads a number type from the next word, and returns the result of the call `asked` for this
+/// type. The operands of the call are read from the words after it.
 pub fn ask_next(alloc: Global, asked: Asked, words: &mut Words) -> Result<String, Fault> {
     match read_type(words)? {
         NumberType::Int8 => ask::<i8>(alloc, asked, words),
@@ -72,7 +74,8 @@ pub fn ask_next(alloc: Global, asked: Asked, words: &mut Words) -> Result<String
     }
 }
 
-// Returns the result of a call with numbers of one type.
+// Returns the result of the call `asked` for the number type `T`. The operands of the call are read
+// from `words`.
 fn ask<T: NativeType + Display + FromStr<Err: Drop>>(
     alloc: Global,
     asked: Asked,

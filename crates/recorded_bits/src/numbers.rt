@@ -1,14 +1,15 @@
-//! Calls on number types, on offsets and keys, and on the counter.
+//! Calls on number types, on offsets and keys, and on the counter `Steps`.
 //!
 //! - `least_value TYPE`, `greatest_value TYPE`: the least and the greatest number of the type
-//! - `number_width TYPE`: the number of bits of a value
-//! - `is_signed TYPE`, `has_wide_values TYPE`: whether it has numbers below 0, and more than 64
-//!   bits
-//! - `to_place TYPE OFFSET`, `place TYPE OFFSET`: the offset as a place; `to_place` also returns
-//!   `none`
-//! - `to_entry TYPE KEY`: the entry that the key names, or `none`
-//! - `steps N NUMBER..`, `default_steps N NUMBER..`: the count of a counter after the N numbers
-//!   were added
+//! - `number_width TYPE`: the number of bits of a number of the type
+//! - `is_signed TYPE`: whether the type has numbers below 0
+//! - `has_wide_values TYPE`: whether the numbers of the type have more than 64 bits
+//! - `to_place TYPE OFFSET`, `place TYPE OFFSET`: the offset as a place. For a negative offset,
+//!   `to_place` returns `none`, and `place` returns an error
+//! - `to_entry TYPE KEY`: the index of the entry to which the key refers, or `none` if the key is
+//!   negative
+//! - `steps N NUMBER..`, `default_steps N NUMBER..`: the value of a new counter after the N numbers
+//!   were added. The counter is made by `new` or by `default`
 
 use crate::answer_text::{write_found, write_value};
 use crate::number_types::{NumberType, read_type};
@@ -25,7 +26,7 @@ use std::alloc::Global;
 use std::fmt::Display;
 use std::str::FromStr;
 
-/// A call on a number type itself.
+/// A call on a number type itself, as listed at the top of this file.
 #[derive(Clone, Copy)]
 pub enum OfType {
     Least,
@@ -35,14 +36,15 @@ pub enum OfType {
     HasWideValues,
 }
 
-/// The two calls that return the place of an offset.
+/// A call that returns the place of an offset: `Found` is `to_place`, `Known` is `place`.
 #[derive(Clone, Copy)]
 pub enum OfOffset {
     Found,
     Known,
 }
 
-/// Returns the result of a call on an offset of the type that the next word names.
+/// Reads a type of offsets and an offset from the next words, and returns the result of the call
+/// `asked` on the offset. The error is `Word` if the type is neither `i32` nor `i64`.
 pub fn of_offset(alloc: Global, asked: OfOffset, words: &mut Words) -> Result<String, Fault> {
     match read_type(words)? {
         NumberType::Int32 => ask_offset::<i32>(alloc, asked, words),
@@ -51,7 +53,9 @@ pub fn of_offset(alloc: Global, asked: OfOffset, words: &mut Words) -> Result<St
     }
 }
 
-/// Returns the entry of a key of the type that the next word names.
+/// Reads a type of keys and a key from the next words, and returns the text of the index of the
+/// entry to which the key refers, or `none` if the key is negative. The error is `Word` if the type
+/// has 128 bits.
 pub fn of_key(alloc: Global, words: &mut Words) -> Result<String, Fault> {
     match read_type(words)? {
         NumberType::Int8 => entry::<i8>(alloc, words),
@@ -66,7 +70,7 @@ pub fn of_key(alloc: Global, words: &mut Words) -> Result<String, Fault> {
     }
 }
 
-/// Returns the result of a call on a number type itself.
+/// Returns the result of the call `asked` on the number type `T`.
 pub fn ask_type<T: NativeType + Display>(alloc: Global, asked: OfType) -> Result<String, Fault> {
     match asked {
         OfType::Least => write_value(alloc, least_value::<T>()),
@@ -77,7 +81,7 @@ pub fn ask_type<T: NativeType + Display>(alloc: Global, asked: OfType) -> Result
     }
 }
 
-// Returns the result of a call on an offset.
+// Reads an offset from the next word, and returns the result of the call `asked` on it.
 fn ask_offset<O: Offset + FromStr<Err: Drop>>(
     alloc: Global,
     asked: OfOffset,
@@ -90,7 +94,7 @@ fn ask_offset<O: Offset + FromStr<Err: Drop>>(
     }
 }
 
-// Returns the place of an offset that has one.
+// Returns the text of the place of `offset`. The error is `Case` if the offset is negative.
 fn write_place<O: Offset>(alloc: Global, offset: O) -> Result<String, Fault> {
     if offset.to_place().is_none() {
         return Err(Fault::Case);
@@ -98,7 +102,8 @@ fn write_place<O: Offset>(alloc: Global, offset: O) -> Result<String, Fault> {
     write_value(alloc, offset.place())
 }
 
-// Returns the entry that a key names.
+// Reads a key from the next word, and returns the text of the index of the entry to which the key
+// refers, or `none` if the key is negative.
 fn entry<K: DictionaryKey + FromStr<Err: Drop>>(
     alloc: Global,
     words: &mut Words,
@@ -107,14 +112,15 @@ fn entry<K: DictionaryKey + FromStr<Err: Drop>>(
     write_found(alloc, key.to_entry())
 }
 
-/// Returns the count of a counter after numbers are added.
+/// Reads a count and that many numbers, adds the numbers to `steps`, and returns the text of the
+/// counter's value.
 pub fn count(alloc: Global, mut steps: Steps, words: &mut Words) -> Result<String, Fault> {
     let numbers = read_numbers::<u64>(alloc, words)?;
     add_all(&mut steps, numbers.as_slice());
     write_value(alloc, steps.seen())
 }
 
-// Adds numbers to a counter.
+// Adds all `numbers` to the counter `steps`.
 fn add_all(steps: &mut Steps, numbers: &[u64]) {
     for number in numbers {
         steps.add(*number as usize);

@@ -1,6 +1,7 @@
-//! The operators and merges of the calls.
+//! The operators and merges that calls on bitmaps and masks apply.
 
-/// An operator on the bits of two operands.
+/// An operator on the bits `x` and `y` of two operands at the same index. `AndNot` is `x & !y`, and
+/// `OrNot` is `x | !y`.
 #[derive(Clone, Copy)]
 pub enum Operator {
     And,
@@ -11,7 +12,8 @@ pub enum Operator {
     OrNot,
 }
 
-/// A merge of three operands.
+/// A merge of equal (`Eq`) or unequal (`Ne`) stored values with the masks of both sides, which
+/// finds the equal or unequal rows. Null is equal only to null.
 #[derive(Clone, Copy)]
 pub enum Merge {
     Eq,

@@ -1,14 +1,17 @@
-//! Calls at all places of words, with a sum over their results.
+//! Calls that are made with operands at many places in words, and the sum over their results.
 //!
-//! - `sweep CALL N`: the sum over the results of a call on bitmaps or masks of N bits
-//! - `sweep all_set N`, `sweep extend_values N`, `sweep extend_wide_values N`: the sum over the
-//!   results for runs of N bits
-//! - `sweep_blocks WIDTH N`: the sum over the results for N blocks of WIDTH bits
+//! - `sweep CALL N`: the sum over the results of CALL on bitmaps or masks of N bits
+//! - `sweep all_set N`: the sum over the results of `all_set` for the N bits of a fixed pattern
+//!   from each place on
+//! - `sweep extend_values N`, `sweep extend_wide_values N`: the sum over the bitmaps that a builder
+//!   makes if the first N bits of the pattern are pushed at each place
+//! - `sweep_blocks WIDTH N`: the sum over the results of `all_in_blocks` for N blocks of WIDTH bits
+//!   of the pattern from each place on
 //!
-//! A call with two or three operands is made at all pairs of places from 0 to 65: the first operand
-//! is the first list at the first place, the second one the second list at the second place, and
-//! the third one the third list at a place computed from the two. The bits of results are added in
-//! order, and a count as one number.
+//! A place is a bit from 0 to 65. `sweep CALL N` makes the call once for each pair of places. The
+//! operands are the first N bits of up to three lists: the first list begins at the first place of
+//! the pair, the second list at the second place, and the third list at a place computed from both.
+//! The sum adds each bit of a result, in order, or a count as one number.
 
 use crate::bits::read_pair;
 use crate::builders::{fill, push, push_all};
@@ -23,73 +26,82 @@ use recorded_text::names::find_word;
 use recorded_text::words::Words;
 use std::alloc::Global;
 
-/// The number of places in words where a list may begin: those of one word, and two of the next.
+/// The number of places at which a list may begin: the 64 bits of one word, and two of the next.
 const PLACES: usize = 66;
 
-/// Returns the sum over the results of the call that the next words name.
+/// Reads the name of a call and a number of bits from the next words, and returns the text of the
+/// sum over the results of this call. The error is `Word` if there is no such call, and `Case` if
+/// the call needs more values than `pattern` has.
 pub fn answer(alloc: Global, words: &mut Words) -> Result<String, Fault> {
     let call = words.read()?;
     let n = words.read_number()?;
     write_sum(alloc, sweep(alloc, call, n))
 }
 
-/// Returns the sum over blocks; the next words are their width and number.
+/// Reads the width and the number of blocks from the next words, and returns the text of the sum
+/// over the results of `all_in_blocks` at each place. The error is `Case` if the blocks are out of
+/// range.
 pub fn answer_of_blocks(alloc: Global, words: &mut Words) -> Result<String, Fault> {
     let (width, n) = read_pair(words)?;
     let sum = sweep_values(alloc, AtPlace::Blocks { width, n }, pattern(alloc));
     write_sum(alloc, sum)
 }
 
-/// Returns the text of a sum.
+/// Returns the text of a sum, in 16 hexadecimal digits. If `sum` is an error, returns it.
 fn write_sum(alloc: Global, sum: Result<Sum, Fault>) -> Result<String, Fault> {
     let Sum(sum) = sum?;
     Ok(format!(in alloc; "{sum:016x}")?)
 }
 
-/// An ordered sum of numbers (64-bit FNV-1a, with a number in place of a byte).
+/// A sum of numbers that depends on their order: the hash 64-bit FNV-1a, with 64-bit numbers in
+/// place of bytes.
 #[derive(Drop)]
 struct Sum(u64);
 
 impl Sum {
+    /// Creates the sum of no numbers.
     fn new() -> Sum {
         Sum(0xcbf2_9ce4_8422_2325)
     }
 
+    /// Adds one number.
     fn add(&mut self, number: u64) {
         self.0 = (self.0 ^ number).wrapping_mul(0x100_0000_01b3);
     }
 
+    /// Adds 0 or 1 for each bit, in order.
     fn add_bits(&mut self, bits: &Bitmap) {
         for i in 0..bits.len() {
             self.add(u64::from(bits.get_bit(i)));
         }
     }
 
-    /// Adds the bits that a call returned.
+    /// Adds 0 or 1 for each bit in `bits`. If `bits` is an error, returns it as a `Fault`.
     fn add_made(&mut self, bits: Result<Bitmap, ComputeError>) -> Result<(), Fault> {
         self.add_found(bits.map_err(Fault::from))
     }
 
-    /// Adds bits, unless there is an error.
+    /// Adds 0 or 1 for each bit in `bits`. If `bits` is an error, returns it.
     fn add_found(&mut self, bits: Result<Bitmap, Fault>) -> Result<(), Fault> {
         self.add_bits(&bits?);
         Ok(())
     }
 
-    /// Adds a truth value, unless there is an error.
+    /// Adds 0 for false or 1 for true. If `truth` is an error, returns it.
     fn add_truth(&mut self, truth: Result<bool, Fault>) -> Result<(), Fault> {
         self.add(u64::from(truth?));
         Ok(())
     }
 
-    /// Adds a count, unless there is an error.
+    /// Adds a count. If `count` is an error, returns it.
     fn add_count(&mut self, count: Result<usize, Fault>) -> Result<(), Fault> {
         self.add(count? as u64);
         Ok(())
     }
 }
 
-/// Returns bit `i` of a long list without a pattern of the length of words.
+/// Returns bit `i` of the list of bits with the number `list`. The list has no end, and no pattern
+/// that repeats with the length of words.
 fn bit_at(i: usize, list: usize) -> bool {
     let mixed = i
         .wrapping_mul(2654435761)
@@ -97,7 +109,9 @@ fn bit_at(i: usize, list: usize) -> bool {
     (mixed ^ (mixed >> 7)) % 3 == 0
 }
 
-/// A list of bits at each place: in bitmaps whose other bits are all set, and cut out of these.
+/// The first bits of one list, once for each place. At index `at`, `around` has a bitmap in which
+/// they begin at bit `at` and all other bits are set, and `cut` has a bitmap of these bits alone,
+/// cut out of the one in `around`.
 #[derive(Drop)]
 struct Places {
     around: Vec<Bitmap>,
@@ -105,6 +119,7 @@ struct Places {
 }
 
 /// Creates a bitmap with the first `n` bits of a list from bit `at` on, and all other bits set.
+/// `list` is the number of the list.
 fn surrounded(alloc: Global, list: usize, at: usize, n: usize) -> Result<Bitmap, Fault> {
     let capacity = at.saturating_add(n).saturating_add(70);
     let mut builder = BitmapBuilder::with_capacity(alloc, capacity)?;
@@ -112,7 +127,8 @@ fn surrounded(alloc: Global, list: usize, at: usize, n: usize) -> Result<Bitmap,
     Ok(builder.freeze())
 }
 
-/// Pushes `at` true bits, the first `n` bits of a list, and 70 true bits.
+/// Pushes `at` true bits, the first `n` bits of the list with the number `list`, and 70 true bits.
+/// The error is `Case` if there is not enough room.
 fn surround(builder: &mut BitmapBuilder, list: usize, at: usize, n: usize) -> Result<(), Fault> {
     fill(builder, at, true)?;
     for i in 0..n {
@@ -121,14 +137,16 @@ fn surround(builder: &mut BitmapBuilder, list: usize, at: usize, n: usize) -> Re
     fill(builder, 70, true)
 }
 
-/// Creates the first `n` bits of a list at each place.
+/// Creates the bitmaps with the first `n` bits of a list at each place. `list` is the number of the
+/// list.
 fn at_each_place(alloc: Global, list: usize, n: usize) -> Result<Places, Fault> {
     let around = surrounded_each(alloc, list, n)?;
     let cut = cut_each(alloc, &around, n)?;
     Ok(Places { around, cut })
 }
 
-/// Creates a list at each place, in bitmaps whose other bits are set.
+/// Creates for each place a bitmap with the first `n` bits of a list from this place on, and all
+/// other bits set. `list` is the number of the list.
 fn surrounded_each(alloc: Global, list: usize, n: usize) -> Result<Vec<Bitmap>, Fault> {
     let mut around = Vec::new(alloc);
     for at in 0..PLACES {
@@ -137,7 +155,8 @@ fn surrounded_each(alloc: Global, list: usize, n: usize) -> Result<Vec<Bitmap>, 
     Ok(around)
 }
 
-/// Cuts a list out of the bitmaps around it.
+/// Cuts the `n` bits of a list out of each bitmap in `around`, where they begin at the bitmap's own
+/// index in `around`.
 fn cut_each(alloc: Global, around: &[Bitmap], n: usize) -> Result<Vec<Bitmap>, Fault> {
     let mut windows = Vec::new(alloc);
     for (at, bits) in around.iter().enumerate() {
@@ -146,7 +165,7 @@ fn cut_each(alloc: Global, around: &[Bitmap], n: usize) -> Result<Vec<Bitmap>, F
     Ok(windows)
 }
 
-/// Three lists of `n` bits, each at each place.
+/// The first `n` bits of three lists, each of them at each place.
 #[derive(Drop)]
 struct Lists {
     first: Places,
@@ -156,6 +175,7 @@ struct Lists {
 }
 
 impl Lists {
+    /// Creates the first `n` bits of the lists with the numbers 1, 2 and 3, at each place.
     fn new(alloc: Global, n: usize) -> Result<Lists, Fault> {
         Ok(Lists {
             first: at_each_place(alloc, 1, n)?,
@@ -165,7 +185,9 @@ impl Lists {
         })
     }
 
-    /// Returns the three lists as bitmaps, the first two at places `p` and `q`.
+    /// Returns the bits of the three lists as bitmaps of their own. They were cut out at the places
+    /// `p`, `q` and a third one, which is computed from both. The error is `Case` if `p` or `q` is
+    /// not below `PLACES`.
     fn bitmaps(&self, p: usize, q: usize) -> Result<(&Bitmap, &Bitmap, &Bitmap), Fault> {
         let (Some(x), Some(y), Some(z)) = (
             self.first.cut.get(p),
@@ -177,8 +199,9 @@ impl Lists {
         Ok((x, y, z))
     }
 
-    /// Returns the three lists as windows of the bitmaps around them, the first two at places `p`
-    /// and `q`.
+    /// Returns the bits of the three lists as windows of the bitmaps around them. The windows begin
+    /// at the places `p`, `q` and a third one, which is computed from both. The error is `Case` if
+    /// `p` or `q` is not below `PLACES`.
     fn masks(&self, p: usize, q: usize) -> Result<(BitMask<'_>, BitMask<'_>, BitMask<'_>), Fault> {
         let r = (p ^ q) % PLACES;
         let (Some(x), Some(y), Some(z)) = (
@@ -196,7 +219,10 @@ impl Lists {
     }
 }
 
-/// Returns the sum over the results of a call at all pairs of places, or at all places of runs.
+/// Returns the sum over the results of the call named `call`. `all_set`, `extend_values` and
+/// `extend_wide_values` are made on the values of `pattern` at each place; other calls are made on
+/// lists of `n` bits at all pairs of places. The error is `Word` if there is no such call, and
+/// `Case` if a call needs more values than `pattern` has.
 fn sweep(alloc: Global, call: &str, n: usize) -> Result<Sum, Fault> {
     match call {
         "all_set" => sweep_values(alloc, AtPlace::Run { n }, pattern(alloc)),
@@ -206,7 +232,8 @@ fn sweep(alloc: Global, call: &str, n: usize) -> Result<Sum, Fault> {
     }
 }
 
-/// A call at a pair of places.
+/// A call on bitmaps or masks that is made at all pairs of places. `CountSet` is `set_bits`, and
+/// `CountBoth` is `num_intersections_with`.
 #[derive(Clone, Copy)]
 enum Asked {
     Combined(Operator),
@@ -217,7 +244,8 @@ enum Asked {
     OfMasks(OfMasks),
 }
 
-/// A call on masks at a pair of places.
+/// A call on masks that is made at all pairs of places. `Bits` is `to_bitmap`, and `CountUnset` is
+/// `mask_unset_bits`.
 #[derive(Clone, Copy)]
 enum OfMasks {
     Combined(Operator),
@@ -227,7 +255,7 @@ enum OfMasks {
     CountUnset,
 }
 
-/// The calls made at pairs of places.
+/// The calls that are made at all pairs of places, with their names.
 const PAIRED: [(&str, Asked); 22] = [
     ("and", Asked::Combined(Operator::And)),
     ("or", Asked::Combined(Operator::Or)),
@@ -262,13 +290,15 @@ const PAIRED: [(&str, Asked); 22] = [
     ("mask_unset_bits", Asked::OfMasks(OfMasks::CountUnset)),
 ];
 
-/// Returns the sum over the results of a call at all pairs of places.
+/// Returns the sum over the results of the call `asked` on lists of `n` bits at all pairs of
+/// places. If `asked` is an error, returns it.
 fn sweep_pairs(alloc: Global, asked: Result<Asked, Fault>, n: usize) -> Result<Sum, Fault> {
     let lists = Lists::new(alloc, n)?;
     sweep_lists(alloc, asked, &lists)
 }
 
-/// Returns the sum over the results of a call at all pairs of places of three lists.
+/// Returns the sum over the results of the call `asked` on `lists` at all pairs of places. If
+/// `asked` is an error, returns it.
 fn sweep_lists(alloc: Global, asked: Result<Asked, Fault>, lists: &Lists) -> Result<Sum, Fault> {
     let asked = asked?;
     let mut sum = Sum::new();
@@ -278,7 +308,8 @@ fn sweep_lists(alloc: Global, asked: Result<Asked, Fault>, lists: &Lists) -> Res
     Ok(sum)
 }
 
-/// Adds the results of a call with the first list at place `p`.
+/// Adds the results of the call `asked` on `lists` to `sum`, with the first list at place `p` and
+/// the second list at each place.
 fn sweep_second(
     alloc: Global,
     asked: Asked,
@@ -292,7 +323,8 @@ fn sweep_second(
     Ok(())
 }
 
-/// Adds the result of a call with the first two lists at places `p` and `q`.
+/// Adds the result of the call `asked` on `lists` to `sum`, with the first two lists at places `p`
+/// and `q`.
 fn add_answer(
     alloc: Global,
     asked: Asked,
@@ -312,7 +344,8 @@ fn add_answer(
     }
 }
 
-/// Adds the result of a call on masks with the first two lists at places `p` and `q`.
+/// Adds the result of the call `asked` on the masks of `lists` to `sum`, with the first two lists
+/// at places `p` and `q`.
 fn add_mask_answer(
     alloc: Global,
     asked: OfMasks,
@@ -331,7 +364,8 @@ fn add_mask_answer(
     }
 }
 
-/// Creates a pattern of 200 truth values with few false ones, out of step with words.
+/// Creates 200 truth values, of which every 37th is false, beginning with the one at index 3. So
+/// the false values are at different places of different words.
 fn pattern(alloc: Global) -> Result<Bitmap, Fault> {
     let mut values = [false; 200];
     for i in 0..200 {
@@ -340,27 +374,30 @@ fn pattern(alloc: Global) -> Result<Bitmap, Fault> {
     Bitmap::from_bools(alloc, &values).map_err(Fault::from)
 }
 
-/// Returns the first `n` values of the pattern.
+/// Returns the first `n` values of `pattern`. The error is `Case` if `n` is above 200.
 fn first_values(alloc: Global, n: usize) -> Result<Bitmap, Fault> {
     let mut values = pattern(alloc)?;
     bits::keep(&mut values, 0, n)?;
     Ok(values)
 }
 
-/// A call on values at each place.
+/// A call on a bitmap of values that is made at each place.
 #[derive(Clone, Copy)]
 enum AtPlace {
-    /// A test of the run of `n` values from the place on: whether it is all true.
+    /// Tests whether the `n` values from the place on are all true.
     Run { n: usize },
-    /// True values up to the place, then the values, and a false one.
+    /// Builds a bitmap of true bits up to the place, all values, and a false bit.
     Appended,
-    /// The values appended in the same way, packed as wide elements are.
+    /// Builds the bitmap of `Appended`, with values that are packed like the results of comparisons
+    /// of wide elements.
     WideAppended,
-    /// The `n` blocks of `width` values from the place on.
+    /// Tests for each of the `n` blocks of `width` values from the place on whether its values are
+    /// all true.
     Blocks { width: usize, n: usize },
 }
 
-/// Returns the sum over the results of a call on values at each place, unless there is an error.
+/// Returns the sum over the results of the call `asked` on `values` at each place. If `values` is
+/// an error, returns it.
 fn sweep_values(
     alloc: Global,
     asked: AtPlace,
@@ -369,7 +406,7 @@ fn sweep_values(
     sweep_places(alloc, asked, &values?)
 }
 
-/// Returns the sum over the results of a call on values at each place.
+/// Returns the sum over the results of the call `asked` on `values` at each place.
 fn sweep_places(alloc: Global, asked: AtPlace, values: &Bitmap) -> Result<Sum, Fault> {
     let mut sum = Sum::new();
     for at in 0..PLACES {
@@ -378,7 +415,7 @@ fn sweep_places(alloc: Global, asked: AtPlace, values: &Bitmap) -> Result<Sum, F
     Ok(sum)
 }
 
-/// Adds the result of a call on values at a place.
+/// Adds the result of the call `asked` on `values` at place `at` to `sum`.
 fn add_at(
     alloc: Global,
     asked: AtPlace,
@@ -396,7 +433,8 @@ fn add_at(
     }
 }
 
-/// Returns for each of `n` blocks of values from place `at` on whether it is all true.
+/// Returns a bit for each of `n` blocks of `width` values, true if the values of the block are all
+/// true. The first block begins at place `at`. The error is `Case` if the blocks are out of range.
 fn blocks(
     alloc: Global,
     values: &Bitmap,
@@ -408,7 +446,8 @@ fn blocks(
     masks::fold_blocks(alloc, &mask, width, n)
 }
 
-/// Returns `at` true values, then these values, and a false one.
+/// Returns a bitmap of `at` true bits, the bits of `values`, and a false bit. `wide` is as in
+/// `SingleBits`.
 fn appended(alloc: Global, at: usize, values: &Bitmap, wide: bool) -> Result<Bitmap, Fault> {
     let capacity = at.saturating_add(values.len()).saturating_add(1);
     let mut builder = BitmapBuilder::with_capacity(alloc, capacity)?;
@@ -416,7 +455,8 @@ fn appended(alloc: Global, at: usize, values: &Bitmap, wide: bool) -> Result<Bit
     Ok(builder.freeze())
 }
 
-/// Pushes `at` true values, then these values, and a false one.
+/// Pushes `at` true bits, the bits of `values`, and a false bit. `wide` is as in `SingleBits`. The
+/// error is `Case` if there is not enough room.
 fn append(
     builder: &mut BitmapBuilder,
     at: usize,

@@ -7,7 +7,9 @@ use polars_arrays_bits::counting::CountedValues;
 use polars_arrays_bits::packing::TruthValues;
 use polars_arrays_numbers::steps::Steps;
 
-/// The bits of a bitmap, read one by one. If `wide`, they are packed as wide elements are.
+/// The bits of a bitmap as truth values that are read one by one. If `wide`, they are packed like
+/// the results of comparisons of wide elements: in registers, eight at a time. The packed bits are
+/// equal.
 #[derive(Drop)]
 pub struct SingleBits<'a> {
     pub bits: &'a Bitmap,
@@ -30,7 +32,7 @@ impl TruthValues for SingleBits<'_> {
     }
 }
 
-/// The bits of a bitmap, and the cost of each.
+/// The bits of a bitmap as truth values with costs. Reading bit `i` adds `costs[i]` to a counter.
 #[derive(Drop)]
 pub struct CostlyBits<'a> {
     pub bits: &'a Bitmap,
@@ -58,7 +60,7 @@ impl CountedValues for CostlyBits<'_> {
         self.bits.get_bit(i)
     }
 
-    // Returns whether a value may be guessed: one that costs nothing.
+    // Returns whether value `i` may be guessed, which is so if its cost is 0.
     fn is_sure(&self, i: usize) -> bool {
         self.costs[i] == 0
     }

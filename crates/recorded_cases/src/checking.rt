@@ -17,7 +17,7 @@ pub enum Mode {
     Print,
 }
 
-/// The number of results that are as recorded, and the number of those that differ.
+/// The numbers of results that are as recorded (`same`) and that differ (`differing`).
 #[derive(Clone, Copy, Debug, Default, PartialEq, Eq)]
 pub struct Tally {
     pub same: u64,
@@ -25,7 +25,8 @@ pub struct Tally {
 }
 
 impl Tally {
-    /// Counts a line. `None` is a line without a call.
+    /// Counts a result: `Some(true)` is as recorded, and `Some(false)` differs. `None` is not
+    /// counted.
     fn count(&mut self, agrees: Option<bool>) {
         match agrees {
             Some(true) => self.same = self.same.saturating_add(1),
@@ -35,7 +36,8 @@ impl Tally {
     }
 }
 
-/// A line of a file, without its recorded result.
+/// A line of a file: the name of the file, the number of the line, counted from 1, and its text
+/// without the recorded result.
 #[derive(Clone, Copy)]
 struct Asked<'a> {
     file: &'a str,
@@ -43,7 +45,8 @@ struct Asked<'a> {
     question: &'a str,
 }
 
-/// Splits a line into its call and its recorded result. A heading has no result.
+/// Splits `line` at ` -> ` into its call and its recorded result. A line without ` -> ` and a
+/// heading have no recorded result.
 fn split_answer(line: &str) -> (&str, Option<&str>) {
     if line.starts_with('#') {
         return (line, None);
@@ -55,7 +58,8 @@ fn split_answer(line: &str) -> (&str, Option<&str>) {
 }
 
 /// Makes the call that each line of `text` names. Depending on `mode`, compares its result with the
-/// recorded one, or prints it. `file` is the name that messages give to the text.
+/// recorded one, or prints it. `file` is the name that messages give to the text. If a line has no
+/// result because of an error, prints the line and returns the error.
 pub fn check_text<R: Print + Eprint + AllocGlobal>(
     rt: &R,
     file: &str,
@@ -80,8 +84,8 @@ pub fn check_text<R: Print + Eprint + AllocGlobal>(
     Ok(tally)
 }
 
-/// Makes the call of a line. If an allocation fails, prints that and makes the call once more: the
-/// arrays of the case must be unchanged.
+/// Makes the call of the line `asked`. If an allocation fails, prints that and makes the call once
+/// more: the arrays in `store` must be unchanged.
 fn ask<R: Eprint + AllocGlobal>(rt: &R, store: &mut Store, asked: Asked) -> Result<Answer, Fault>
     requires { HasGoodArrays store.old }
     ensures { HasGoodArrays store.new }
@@ -95,7 +99,7 @@ fn ask<R: Eprint + AllocGlobal>(rt: &R, store: &mut Store, asked: Asked) -> Resu
     }
 }
 
-/// Prints a line that has no result, and the error, on standard error.
+/// Prints the line `asked` and the error `fault` that it led to, on standard error.
 fn tell(rt: &impl Eprint, asked: Asked, fault: &Fault) -> Result<(), Fault> {
     let Asked {
         file,
@@ -105,7 +109,9 @@ fn tell(rt: &impl Eprint, asked: Asked, fault: &Fault) -> Result<(), Fault> {
     eprintln!(rt; "{file}:{number}: {fault}: {question}").map_err(Fault::from)
 }
 
-/// Compares a result with the recorded one, or prints it. Prints the line if it has none.
+/// Compares `answer` with the recorded result, or prints it in mode `Print`. Returns what `compare`
+/// or `print_answer` returns. If `answer` is an error, prints it with the line on standard error,
+/// and returns it.
 fn check_answer<R: Print + Eprint>(
     rt: &R,
     asked: Asked,
@@ -125,7 +131,8 @@ fn check_answer<R: Print + Eprint>(
     }
 }
 
-/// Prints a heading, or a call and its result.
+/// Prints a heading, or a call and its result. `question` is the line. Returns `None`, since
+/// nothing is compared.
 fn print_answer(rt: &impl Print, question: &str, answer: &Answer) -> Result<Option<bool>, Fault> {
     match answer {
         Answer::Nothing if question.starts_with('#') => println!(rt; "{question}")?,
@@ -136,8 +143,8 @@ fn print_answer(rt: &impl Print, question: &str, answer: &Answer) -> Result<Opti
     Ok(None)
 }
 
-/// Compares a result with the recorded one, and prints both if they differ. Returns `None` if there
-/// is neither.
+/// Compares `answer` with the recorded result. Returns whether they are equal, or `None` if there
+/// is neither. If they differ, prints both, with the line `asked`.
 fn compare(
     rt: &impl Print,
     asked: Asked,

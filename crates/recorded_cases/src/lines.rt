@@ -23,8 +23,8 @@ use recorded_text::words::Words;
 use std::alloc::{AllocError, Global};
 use std::str::from_utf8;
 
-/// Returns the result of a call of the line language, or `None` for any other call. `text` is the
-/// line after the call and a space, and `words` are its words.
+/// Returns the result of `call` if it is a call of the line language, or `None` for any other call.
+/// `text` is the part of the line after the call and a space, and `words` are the words of `text`.
 pub fn answer(
     alloc: Global,
     call: &str,
@@ -45,7 +45,7 @@ pub fn answer(
     answer.map(Some)
 }
 
-/// Returns the command of arguments.
+/// Splits `text` into arguments, and returns the name of the command that they select.
 fn answer_command(alloc: Global, text: &str) -> Result<String, Fault> {
     let arguments = split_arguments(alloc, text)?;
     command_name(command(&arguments))
@@ -53,19 +53,21 @@ fn answer_command(alloc: Global, text: &str) -> Result<String, Fault> {
         .map_err(Fault::from)
 }
 
-/// Returns the exit status of a run.
+/// Reads the outcome of a run from `words`, and returns the exit status after such a run.
 fn answer_status(alloc: Global, words: &mut Words) -> Result<String, Fault> {
     let outcome = read_outcome(words)?;
     exit_status(&outcome).to_string(alloc).map_err(Fault::from)
 }
 
-/// Returns the message of a run that stopped by the error that the next word names.
+/// Reads the name of an error of a run from the next word, and returns the message for this error.
+/// The error is `Word` if there is no such name.
 fn answer_fault(alloc: Global, words: &mut Words) -> Result<String, Fault> {
     let fault = run_error_named(words.read()?)?;
     fault_text(&fault).to_string(alloc).map_err(Fault::from)
 }
 
-/// Returns the result of a line.
+/// Returns the result of `line` in the line language, or `refused: WHY` if the line has a fault.
+/// The error is `Memory`.
 fn answer_text(alloc: Global, line: &str) -> Result<String, Fault> {
     match answer_line(alloc, line) {
         Ok(answer) => Ok(answer),
@@ -74,13 +76,14 @@ fn answer_text(alloc: Global, line: &str) -> Result<String, Fault> {
     }
 }
 
-/// Returns the result of the line whose bytes are the next word.
+/// Reads bytes from the next word, and returns the result of the line that consists of these bytes.
 fn answer_bytes(alloc: Global, words: &mut Words) -> Result<String, Fault> {
     let bytes = read_bytes(alloc, words.read()?)?;
     answer_read(alloc, &bytes)
 }
 
-/// Returns the result of the line of these bytes.
+/// Returns the result of the line that consists of `bytes`. The error is `Word` if the bytes are
+/// not UTF-8.
 fn answer_read(alloc: Global, bytes: &[u8]) -> Result<String, Fault> {
     match from_utf8(bytes) {
         Ok(line) => answer_text(alloc, line),
@@ -88,15 +91,16 @@ fn answer_read(alloc: Global, bytes: &[u8]) -> Result<String, Fault> {
     }
 }
 
-/// Returns the result of a line that ends in a piece of text repeated a number of times.
+/// Reads a number, a piece and the beginning of a line from the next three words. Returns the
+/// result of the line that begins so and ends in the piece, repeated that number of times.
 fn answer_repeated(alloc: Global, words: &mut Words) -> Result<String, Fault> {
     let times = words.read_number()?;
     let piece = read_bytes(alloc, words.read()?)?;
     answer_ending(alloc, words, times, &piece)
 }
 
-/// Returns the result of the line that begins with the bytes of the next word and ends in a
-/// repeated piece.
+/// Reads the beginning of a line as bytes from the next word. Returns the result of the line that
+/// begins with these bytes and ends in `piece`, repeated `times` times.
 fn answer_ending(
     alloc: Global,
     words: &mut Words,
@@ -108,7 +112,7 @@ fn answer_ending(
     answer_read(alloc, &bytes)
 }
 
-/// Appends a piece `times` times.
+/// Appends `piece` to `bytes`, `times` times.
 fn push_repeated(bytes: &mut Vec<u8>, times: u32, piece: &[u8]) -> Result<(), AllocError> {
     for _ in 0..times {
         bytes.extend_from_slice(piece)?;
@@ -116,7 +120,8 @@ fn push_repeated(bytes: &mut Vec<u8>, times: u32, piece: &[u8]) -> Result<(), Al
     Ok(())
 }
 
-/// Returns the report and the output of a run over the bytes of the next word.
+/// Reads bytes from the next word, and runs the line language with these bytes as input. Returns
+/// the text of the report and of the output.
 fn answer_run(alloc: Global, words: &mut Words) -> Result<String, Fault> {
     let input = read_bytes(alloc, words.read()?)?;
     let mut written = Vec::new(alloc);
@@ -126,7 +131,7 @@ fn answer_run(alloc: Global, words: &mut Words) -> Result<String, Fault> {
     }
 }
 
-/// Returns the text of a report and of the output of a run.
+/// Returns the text of `report` and of `written`, the output of a run.
 fn write_run(alloc: Global, report: Report, written: &[u8]) -> Result<String, Fault> {
     let Report { lines, refused } = report;
     let mut text = format!(in alloc; "lines {lines} refused {refused} ")?;
@@ -134,7 +139,7 @@ fn write_run(alloc: Global, report: Report, written: &[u8]) -> Result<String, Fa
     Ok(text)
 }
 
-/// Returns the bytes that the demo writes.
+/// Runs the demo, and returns the text of the bytes that it writes.
 fn answer_demo(alloc: Global) -> Result<String, Fault> {
     let mut written = Vec::new(alloc);
     match demo(alloc, &mut written) {
@@ -143,8 +148,9 @@ fn answer_demo(alloc: Global) -> Result<String, Fault> {
     }
 }
 
-/// Returns the fault of a line whose run stopped: `Memory`, if an allocation failed in the run,
-/// which then wrote nothing, or in the vector that it writes to; otherwise `Case`.
+/// Converts `fault`, the error of a run whose output `written` is a vector. Returns `Memory` if a
+/// write failed, because the vector could not grow, or if the run failed to allocate before it
+/// wrote anything. Otherwise returns `Case`.
 fn fault_of(fault: RunError, written: &[u8]) -> Fault {
     match fault {
         RunError::Memory if written.is_empty() => Fault::Memory,
@@ -153,7 +159,7 @@ fn fault_of(fault: RunError, written: &[u8]) -> Fault {
     }
 }
 
-/// Splits a text into arguments, separated by one space.
+/// Splits `text` at spaces into arguments. Adjacent spaces count as one.
 fn split_arguments(alloc: Global, text: &str) -> Result<Vec<String>, AllocError> {
     let mut arguments = Vec::new(alloc);
     for word in text.split(' ') {
@@ -164,7 +170,7 @@ fn split_arguments(alloc: Global, text: &str) -> Result<Vec<String>, AllocError>
     Ok(arguments)
 }
 
-/// Returns the name of a command.
+/// Returns the name of `command` in results.
 fn command_name(command: Command) -> &'static str {
     match command {
         Command::Lines => "lines",
@@ -175,7 +181,8 @@ fn command_name(command: Command) -> &'static str {
     }
 }
 
-/// Reads the outcome of a run: `lines N refused N`, or its fault.
+/// Reads the outcome of a run from the next words: `lines N refused N` for a report, or the name of
+/// an error. The error is `Word` for any other words.
 fn read_outcome(words: &mut Words) -> Result<Result<Report, RunError>, Fault> {
     match words.read()? {
         "lines" => read_report(words).map(Ok),
@@ -183,7 +190,8 @@ fn read_outcome(words: &mut Words) -> Result<Result<Report, RunError>, Fault> {
     }
 }
 
-/// Reads a report: `N refused N`, after `lines`.
+/// Reads the words `N refused N`, which follow the word `lines`, as a report. The error is `Word`
+/// for any other words.
 fn read_report(words: &mut Words) -> Result<Report, Fault> {
     let lines = words.read_number()?;
     if words.read()? != "refused" {
@@ -193,8 +201,8 @@ fn read_report(words: &mut Words) -> Result<Report, Fault> {
     Ok(Report { lines, refused })
 }
 
-/// Returns the error of a run that a word names: `read`, `write` or `memory`. Any other word is the
-/// error `Word`.
+/// Returns the error of a run that is named `word`: `read`, `write` or `memory`. The error is
+/// `Word` for any other word.
 fn run_error_named(word: &str) -> Result<RunError, Fault> {
     match word {
         "read" => Ok(RunError::Read),

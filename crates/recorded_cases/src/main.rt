@@ -10,6 +10,7 @@
 //! | `NAME = [shared] ARRAY` | names an array, in parts that are shared or owned |
 //! | `NAME = [shared] ARRAY -> refused: WHY` | these parts make no array |
 //! | `NAME = copy OTHER` | names a clone of an array |
+//! | `NAME = wrapped LEVELS KINDS ARRAY` | names an array nested in LEVELS others |
 //! | `CALL OPERAND.. -> RESULT` | the call returns this result |
 //!
 //! Operands are names of arrays, numbers, truth values, names of types, bits `b<at>:<0 and 1..>`,
@@ -17,9 +18,9 @@
 //! with `x` where nothing is promised, numbers, `none`, or `refused: WHY`.
 //!
 //! The program prints each line whose result differs, with its file, its number and both results,
-//! and the counts of each file. Every result of the file after `--wrong` must differ. The status is
-//! 0 if all is as it must be, and 1 otherwise. A line that can't be read ends the run with status 1
-//! and is named on standard error.
+//! and the counts of each file. Every result of the file after `--wrong` must differ. A file must
+//! have at least one result. The status is 0 if all is as it must be, and 1 otherwise. A line that
+//! can't be read ends the run with status 1 and is named on standard error.
 //!
 //! `recorded_cases --print FILE..` prints the results of the calls instead of comparing them. Its
 //! lines need no recorded results.
@@ -35,7 +36,8 @@ mod checking;
 mod lines;
 mod question;
 
-/// Prints the counts of a file, and returns whether they are right.
+/// Prints the counts of the file `name`, and returns whether they are right. They are right if
+/// there is at least one result, and none differs, or, if `is_wrong`, all differ.
 fn report(rt: &impl Print, name: &str, tally: Tally, is_wrong: bool) -> Result<bool, Fault> {
     let Tally { same, differing } = tally;
     match (is_wrong, same, differing) {
@@ -46,11 +48,12 @@ fn report(rt: &impl Print, name: &str, tally: Tally, is_wrong: bool) -> Result<b
     Ok(if is_wrong {
         same == 0 && differing > 0
     } else {
-        differing == 0
+        same > 0 && differing == 0
     })
 }
 
-/// Checks a file, and returns whether its counts are right.
+/// Checks the file `name`, and returns whether its counts are right. Returns `true` if `mode` is
+/// `Print`.
 fn check_file<R: Files + Print + Eprint + AllocGlobal>(
     rt: &R,
     name: &str,
@@ -65,7 +68,8 @@ fn check_file<R: Files + Print + Eprint + AllocGlobal>(
     }
 }
 
-/// Checks standard input, and returns whether its counts are right.
+/// Checks standard input, and returns whether its counts are right. Returns `true` if `mode` is
+/// `Print`.
 fn check_input<R: Input + Print + Eprint + AllocGlobal>(rt: &R, mode: Mode) -> Result<bool, Fault> {
     let name = "standard input";
     let text = io::read_to_string(rt.alloc(), rt.reader())?;
@@ -76,7 +80,9 @@ fn check_input<R: Input + Print + Eprint + AllocGlobal>(rt: &R, mode: Mode) -> R
     }
 }
 
-/// Checks each file, and returns whether all counts are right.
+/// Checks each file that `words` names, and returns whether all counts are right. In the mode
+/// `Compare`, a file after the word `--wrong` is checked in the mode `CompareWrong`. If no file
+/// follows that word, returns `false`.
 fn check_files<R: Files + Print + Eprint + AllocGlobal>(
     rt: &R,
     words: &[String],
@@ -85,17 +91,18 @@ fn check_files<R: Files + Print + Eprint + AllocGlobal>(
     let mut is_well = true;
     let mut of_file = mode;
     for word in words {
-        if word.as_str() == "--wrong" {
+        if mode == Mode::Compare && word.as_str() == "--wrong" {
             of_file = Mode::CompareWrong;
         } else {
             is_well &= check_file(rt, word.as_str(), of_file)?;
             of_file = mode;
         }
     }
-    Ok(is_well)
+    Ok(is_well && of_file == mode)
 }
 
-/// Checks each named file, or standard input if none is named.
+/// Checks each file that `words` names, or standard input if there are no words. Returns whether
+/// all counts are right.
 fn check_all<R>(rt: &R, words: &[String], mode: Mode) -> Result<bool, Fault>
 where
     R: Files + Input + Print + Eprint + AllocGlobal,
@@ -107,7 +114,8 @@ where
     }
 }
 
-/// Executes the arguments, and returns whether all counts are right.
+/// Checks the files that the program's arguments name, or prints their results after `--print`.
+/// Returns whether all counts are right.
 fn run<R: Env + Files + Input + Print + Eprint + AllocGlobal>(rt: &R) -> Result<bool, Fault> {
     let words: Vec<String> = env::args(rt)?.skip(1).collect(rt.alloc())?;
     match words.split_first() {
@@ -116,6 +124,7 @@ fn run<R: Env + Files + Input + Print + Eprint + AllocGlobal>(rt: &R) -> Result<
     }
 }
 
+/// Runs the program. The status is 0 if all counts are right, and otherwise 1.
 fn main(rt: HostRuntime) -> ExitCode {
     match run(&rt) {
         Ok(true) => ExitCode::from(0),

@@ -19,14 +19,15 @@ use std::fmt::Display;
 pub enum Answer {
     /// No result: the line is empty, a heading, or names an array that was created.
     Nothing,
-    /// The name of an array that its parts do not make, and `refused: WHY`.
+    /// The name of an array that its parts do not make, or that is nested too deeply, and the text
+    /// `refused: WHY`.
     Refused(String, String),
     /// The result of a call.
     Returned(String),
 }
 
 impl Answer {
-    /// Returns the text that is compared with the recorded result, if there is one.
+    /// Returns the text that is compared with the recorded result, or `None` for `Nothing`.
     pub fn text(&self) -> Option<&str> {
         match self {
             Answer::Nothing => None,
@@ -36,7 +37,8 @@ impl Answer {
     }
 }
 
-/// Returns the result of a line, given without its recorded result.
+/// Returns the result of `line`, which is given without its recorded result. A heading removes all
+/// arrays from `store`, and a line that creates an array adds it to `store`.
 pub fn answer_line(alloc: Global, store: &mut Store, line: &str) -> Result<Answer, Fault>
     requires { HasGoodArrays store.old }
     ensures { HasGoodArrays store.new }
@@ -53,7 +55,8 @@ pub fn answer_line(alloc: Global, store: &mut Store, line: &str) -> Result<Answe
     answer_words(alloc, store, line, &mut words)
 }
 
-// Returns the result of the line of these words.
+// Returns the result of `line`, which has at least one word. `words` are its words, of which none
+// has been read.
 fn answer_words(
     alloc: Global,
     store: &mut Store,
@@ -71,7 +74,7 @@ fn answer_words(
     answer_question(alloc, store, line, first, words).map(Answer::Returned)
 }
 
-// Returns the result of a call, and checks that no words follow its operands.
+// Returns the result of `call`, the first word of `line`. `words` are the words after it.
 fn answer_question(
     alloc: Global,
     store: &Store,
@@ -89,7 +92,8 @@ fn answer_question(
     }
 }
 
-// Returns the result of a call whose operands are all words that are left.
+// Returns the result of `call`, whose operands are all words that are left. The error is `Word` if
+// a word follows the operands.
 fn answer_operands(
     alloc: Global,
     store: &Store,
@@ -105,8 +109,9 @@ fn answer_operands(
     Ok(answer)
 }
 
-// Reads an array: a clone after the word `copy`; an array nested in others after `wrapped`, or
-// after `wrapped_far` in more than the usual stack has room for; otherwise an array written out.
+// Reads an array from the next words. After `copy`, this is a clone of the array with the name that
+// follows. After `wrapped` or `wrapped_far`, it is an array nested in others, up to `LEVELS` or
+// `FAR_LEVELS` deep. Otherwise the array is written out.
 fn read_array(alloc: Global, store: &Store, words: &mut Words) -> Result<AnyArray, Fault>
     requires { HasGoodArrays store.now }
     ensures { IfOk result (λ array. IsGood array) }
@@ -123,7 +128,7 @@ fn read_array(alloc: Global, store: &Store, words: &mut Words) -> Result<AnyArra
     read_any(alloc, words)
 }
 
-// Clones an array.
+// Returns a clone of `array`. The error is `Memory`.
 fn copy_array(alloc: Global, array: &AnyArray) -> Result<AnyArray, Fault>
     requires { IsGood array.now }
     ensures { IfOk result (λ copy. IsGood copy) }
@@ -132,7 +137,8 @@ fn copy_array(alloc: Global, array: &AnyArray) -> Result<AnyArray, Fault>
     Ok(copy)
 }
 
-// Names an array that was created, or returns the error of creating it.
+// Adds the array in `made` to `store` under `name`. If `made` is an error, returns what `refuse`
+// returns for it.
 fn add_made(
     alloc: Global,
     store: &mut Store,
@@ -150,7 +156,8 @@ fn add_made(
     }
 }
 
-// Names an array after which no word follows.
+// Adds `array` to `store` under `name`. The error is `Word` if any of `words` has not been read,
+// `Case` if an array of this name exists, or `Memory`.
 fn add(
     alloc: Global,
     store: &mut Store,
@@ -170,8 +177,8 @@ fn add(
     Ok(Answer::Nothing)
 }
 
-// Returns the reason why parts make no array, or that it would be nested too deeply. Any other
-// fault is one of the line.
+// Returns `Refused` with `name` and the reason if `fault` says that the parts make no array, or
+// that the array would be nested too deeply. Returns any other fault as an error.
 fn refuse(alloc: Global, name: &str, fault: Fault) -> Result<Answer, Fault> {
     match fault {
         Fault::Parts(error) => refusal(alloc, name, &error),
@@ -180,14 +187,16 @@ fn refuse(alloc: Global, name: &str, fault: Fault) -> Result<Answer, Fault> {
     }
 }
 
-// Returns a name, and the reason why there is no array of that name.
+// Returns `Refused` with `name` and the text `refused: WHY`, where `why` is the reason. The error
+// is `Memory`.
 fn refusal(alloc: Global, name: &str, why: &impl Display) -> Result<Answer, Fault> {
     let why = format!(in alloc; "refused: {why}")?;
     let name = name.to_string(alloc)?;
     Ok(Answer::Refused(name, why))
 }
 
-// Returns the first result that there is.
+// Evaluates expressions of type `Result<Option<String>, Fault>` in turn, and makes the surrounding
+// function return the first text or error. Continues after the macro if all are `None`.
 macro_rules! first_answer {
     ($($answer:expr),+ $(,)?) => {
         $(if let Some(answer) = $answer? {
@@ -196,7 +205,8 @@ macro_rules! first_answer {
     };
 }
 
-// Returns the result of a call of any subject.
+// Returns the result of `call`, which any of the six crates of recorded calls may define. The error
+// is `Word` if none of them defines it.
 fn answer_call(alloc: Global, store: &Store, call: &str, words: &mut Words) -> Result<String, Fault>
     requires { HasGoodArrays store.now }
 {

@@ -6,7 +6,8 @@ use anyhow::{Context, Result, anyhow};
 use diff_keys::outcome::Outcome;
 use std::alloc::Global;
 
-/// Returns the outcome of the comparison that a line asks for, and the bytes that were written.
+/// Compares the two texts of `line`, and returns as text the outcome or the error, and the bytes of
+/// the report. Returns an error if the line is not a case.
 pub(crate) fn answer(alloc: Global, line: &str) -> Result<String> {
     let words: Vec<&str> = line.split(' ').collect(alloc)?;
     let (kind, rest) = words.split_first().context("no kind")?;
@@ -21,13 +22,14 @@ pub(crate) fn answer(alloc: Global, line: &str) -> Result<String> {
     }
 }
 
-/// Returns the bytes that a word writes.
+/// Decodes a word of `x` and two hexadecimal digits for each byte. Returns an error for any other
+/// word.
 fn read_bytes(alloc: Global, word: &str) -> Result<Vec<u8>> {
     let digits = word.strip_prefix('x').context("no bytes")?;
     Ok(hex::decode(alloc, digits)?)
 }
 
-/// Returns the word for an outcome.
+/// Returns the word for `outcome`: `same` or `different`.
 pub(crate) fn outcome_word(outcome: Outcome) -> &'static str {
     match outcome {
         Outcome::Same => "same",
@@ -35,7 +37,8 @@ pub(crate) fn outcome_word(outcome: Outcome) -> &'static str {
     }
 }
 
-/// Returns the text of an outcome or an error, and of the bytes that were written.
+/// Returns `said`, which is an outcome or an error, then ` x` and the bytes `written` in
+/// hexadecimal.
 pub(crate) fn write_answer(alloc: Global, said: &str, written: &[u8]) -> Result<String> {
     let written = hex::encode(alloc, written)?;
     Ok(format!(in alloc; "{said} x{written}")?)

@@ -11,7 +11,9 @@ use json_changes::changes::Rules;
 use json_paths::parse::parse_path;
 use std::alloc::Global;
 
-/// Returns the outcome of a comparison of documents, and the bytes that were written.
+/// Compares the documents of the texts `left` and `right`, and returns as text the outcome or the
+/// error, and the bytes of the report. `words` are the path of the key and the options. Returns an
+/// error if there is no path, or if the path cannot be parsed.
 pub(crate) fn answer_documents(
     alloc: Global,
     words: &[&str],
@@ -46,7 +48,8 @@ pub(crate) fn answer_documents(
     answer_run(alloc, &options, left, right)
 }
 
-/// Returns the outcome of a run over two texts, and the bytes that were written.
+/// Compares the texts `left` and `right` with `options`, and returns as text the outcome or the
+/// error, and the bytes of the report.
 fn answer_run(
     alloc: Global,
     options: &DocumentOptions<'_>,

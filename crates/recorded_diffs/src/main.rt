@@ -10,8 +10,10 @@
 //! | `skip-bad` | documents |
 //! | `unique`, `json` | both |
 //!
-//! The output for a line is the line, ` -> `, then `same`, `different` or the error, and last the
-//! bytes that were written. A line that begins with `#` is printed unchanged.
+//! The output for a line is the line, ` -> `, then `same`, `different` or the error of the
+//! comparison, and last the bytes of the report, in the form of the two texts. A line that begins
+//! with `#` is printed unchanged. The program ends with an error at any other line that is not a
+//! case.
 #![tactic(auto)]
 
 use crate::case::answer;
@@ -22,7 +24,8 @@ mod documents;
 mod tables;
 mod words;
 
-/// Prints a line that begins with `#`, or a case and its result.
+/// Prints `line` unchanged if it begins with `#`. Otherwise prints the line, ` -> ` and the result
+/// of the case. Returns an error if the line is not a case.
 fn print_line(rt: &(impl Print + AllocGlobal), line: &str) -> Result<()> {
     if line.starts_with('#') {
         println!(rt; "{line}")?;
@@ -33,6 +36,7 @@ fn print_line(rt: &(impl Print + AllocGlobal), line: &str) -> Result<()> {
     Ok(())
 }
 
+/// Prints each line of the input, and for a case its result.
 fn main(rt: HostRuntime) -> Result<()> {
     for line in rt.lines(rt.alloc()) {
         print_line(&rt, &line?)?;

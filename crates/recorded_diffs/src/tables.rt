@@ -9,7 +9,8 @@ use diff_run::options::Options;
 use diff_run::run::{Input, run};
 use std::alloc::Global;
 
-/// Returns the outcome of a comparison of two tables, and the bytes that were written.
+/// Compares the tables `left` and `right`, with the columns and settings that `options` give, and
+/// returns as text the outcome or the error, and the bytes of the report.
 pub(crate) fn answer_tables(
     alloc: Global,
     options: &[&str],
@@ -28,7 +29,8 @@ pub(crate) fn answer_tables(
     answer_choice(alloc, options, choice, left, right)
 }
 
-/// Returns the outcome of a comparison of some columns, and the bytes that were written.
+/// Compares the columns that `choice` selects of the tables `left` and `right`, and returns as text
+/// the outcome or the error, and the bytes of the report.
 fn answer_choice(
     alloc: Global,
     options: &[&str],
@@ -55,7 +57,8 @@ fn answer_choice(
     answer_run(alloc, &options, left, right)
 }
 
-/// Returns the outcome of a run over two texts, and the bytes that were written.
+/// Compares the texts `left` and `right` with `options`, and returns as text the outcome or the
+/// error, and the bytes of the report.
 fn answer_run(alloc: Global, options: &Options<'_>, left: &[u8], right: &[u8]) -> Result<String> {
     let left = Input {
         name: b"old.csv",

@@ -3,12 +3,13 @@
 use diff_run::options::Format;
 use std::alloc::{AllocError, Global};
 
-/// Returns whether an option is given.
+/// Returns whether `options` have the word `name`.
 pub(crate) fn is_given(options: &[&str], name: &str) -> bool {
     options.contains(&name)
 }
 
-/// Returns the value of an option, if it is given.
+/// Returns the value of the first of `options` that is `name=VALUE`, or `None` if there is no such
+/// option.
 pub(crate) fn value_of<'a>(options: &[&'a str], name: &str) -> Option<&'a str> {
     for option in options {
         match option.split_once('=') {
@@ -19,7 +20,8 @@ pub(crate) fn value_of<'a>(options: &[&'a str], name: &str) -> Option<&'a str> {
     None
 }
 
-/// Returns the names that an option gives.
+/// Returns the names in the option `name=NAMES`, which has commas between names. Returns no names
+/// if the option is not given.
 pub(crate) fn names_of<'a>(
     alloc: Global,
     options: &[&'a str],
@@ -34,7 +36,7 @@ pub(crate) fn names_of<'a>(
     Ok(names)
 }
 
-/// Returns the form of the report.
+/// Returns the format of the report: `Json` if the option `json` is given, otherwise `Text`.
 pub(crate) fn format_of(options: &[&str]) -> Format {
     if is_given(options, "json") {
         Format::Json

@@ -28,14 +28,14 @@ use recorded_text::store::Store;
 use recorded_text::words::Words;
 use std::alloc::Global;
 
-/// A law that holds by being called.
+/// A law of `polars_compare_nested`. Calling it has no effect.
 #[derive(Clone, Copy)]
 pub enum Law {
     Tally,
     Steps,
 }
 
-/// Calls a law, and returns `holds`.
+/// Calls the function of `law`, and returns the text `holds`. The error is `Memory`.
 pub fn call_law(alloc: Global, law: Law) -> Result<String, Fault> {
     match law {
         Law::Tally => law_tally(),
@@ -44,8 +44,8 @@ pub fn call_law(alloc: Global, law: Law) -> Result<String, Fault> {
     Ok("holds".to_string(alloc)?)
 }
 
-// Returns the two arrays that the next words name. The error is `Case`, if their types or lengths
-// differ, since the kernels require equal ones.
+// Returns the two arrays that the next two words name. The error is `Case` if there is no such
+// array, or if their types or lengths differ, since the kernels require equal ones.
 fn read_alike<'a>(
     store: &'a Store,
     words: &mut Words,
@@ -64,8 +64,9 @@ fn read_alike<'a>(
     }
 }
 
-/// Returns for each place whether the rows are equal, or whether they differ; null is equal to null
-/// alone.
+/// Reads the names of two arrays, and returns the text of the bits of their missing equality or
+/// inequality. `relation` says which of the two. The error is `Case` if the types or lengths of the
+/// arrays differ.
 pub fn missing(
     alloc: Global,
     relation: Relation,
@@ -81,8 +82,9 @@ pub fn missing(
     }
 }
 
-/// Returns for each place whether the rows are equal, and the number of comparisons that a borrowed
-/// counter has counted.
+/// Reads the names of two arrays, and returns the text of the bits of their missing equality, with
+/// the number of comparisons of leaves that a lent counter has counted. The error is `Case` if the
+/// types or lengths of the arrays differ, or if the count decreased.
 pub fn with_steps(alloc: Global, store: &Store, words: &mut Words) -> Result<String, Fault>
     requires { HasGoodArrays store.now }
 {
@@ -92,14 +94,16 @@ pub fn with_steps(alloc: Global, store: &Store, words: &mut Words) -> Result<Str
     add_count(write_made(alloc, bits), steps.seen(), COMPARISONS)
 }
 
-/// The form of lists: between offsets, or of one width.
+/// The form of lists: between offsets, or all of one size.
 #[derive(Clone, Copy)]
 pub enum ListKind {
     Offsets,
     FixedSize,
 }
 
-/// Returns for each list whether its items are all rows of an array, in order.
+/// Reads the names of an array of lists and of an array of items. Returns the text of a bit for
+/// each list: 1 if its items are exactly the rows of the second array, in order. The error is
+/// `Case` if the lists are not of the form `kind`, or if their items have another type.
 pub fn lists(
     alloc: Global,
     kind: ListKind,

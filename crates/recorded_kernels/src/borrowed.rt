@@ -21,7 +21,8 @@ use recorded_text::words::Words;
 use std::alloc::Global;
 use std::str::from_utf8;
 
-/// Compares the array of byte strings that the next word names with the byte string after it.
+/// Reads the name of an array and a byte string from the next two words. Returns the text of the
+/// bits that compare each row with the byte string by the kernel of `question`.
 pub fn ask_bytes(
     alloc: Global,
     question: Question,
@@ -35,7 +36,9 @@ pub fn ask_bytes(
     ask_strings(alloc, question, array, &bytes)
 }
 
-// Compares an array of byte strings with one byte string.
+// Compares each row of `array` with `bytes` by the kernel of `question`, and returns the text of
+// the bits. The error is `Case` if `question` is `Can`, or if the kind of the array does not have
+// this kernel.
 fn ask_strings(
     alloc: Global,
     question: Question,
@@ -55,8 +58,8 @@ fn ask_strings(
     }
 }
 
-// Returns for each row whether it is equal to a byte string. Raw bits are shown for present rows
-// only.
+// Compares each row with `bytes` by a kernel of equality, and returns the text of the bits. Bits of
+// raw comparisons are shown as `x` for masked rows.
 fn equal_to_bytes<A: BytesEqKernel>(
     alloc: Global,
     kernel: Equality,
@@ -74,7 +77,8 @@ fn equal_to_bytes<A: BytesEqKernel>(
     kernel.write(alloc, bits, rows.validity())
 }
 
-// Returns the order of each row and a byte string. Bits are shown for present rows only.
+// Compares each row with `bytes` by a kernel of order, and returns the text of the bits, with `x`
+// for masked rows.
 fn beside_bytes<A: BytesOrdKernel>(
     alloc: Global,
     order: Order,
@@ -92,8 +96,9 @@ fn beside_bytes<A: BytesOrdKernel>(
     write_made_present(alloc, bits, rows.validity(), None)
 }
 
-/// Compares the array of texts that the next word names with the text after it, which is written as
-/// bytes.
+/// Reads the name of an array of texts and a text, written as bytes, from the next two words.
+/// Returns the text of the bits that compare each row with this text by the kernel of `question`.
+/// The error is `Word` if the bytes are not UTF-8.
 pub fn ask_text(
     alloc: Global,
     question: Question,
@@ -110,7 +115,8 @@ pub fn ask_text(
     }
 }
 
-// Compares an array of texts with one text.
+// Compares each row of `array` with `text` by the kernel of `question`, and returns the text of the
+// bits. The error is `Case` if the array does not hold texts, or if `question` is `Can`.
 fn ask_texts(
     alloc: Global,
     question: Question,
@@ -120,7 +126,8 @@ fn ask_texts(
     of_kind!(array, rows => ask_text_rows(alloc, question, rows, text), Utf8 LargeUtf8 Utf8View)
 }
 
-// Compares texts with one text.
+// Compares each row of `rows` with `text` by the kernel of `question`, and returns the text of the
+// bits. The error is `Case` if `question` is `Can`.
 fn ask_text_rows<A: TextEqKernel + TextOrdKernel>(
     alloc: Global,
     question: Question,
@@ -136,7 +143,8 @@ fn ask_text_rows<A: TextEqKernel + TextOrdKernel>(
     }
 }
 
-// Returns for each row whether it is equal to a text. Raw bits are shown for present rows only.
+// Compares each row with `text` by a kernel of equality, and returns the text of the bits. Bits of
+// raw comparisons are shown as `x` for masked rows.
 fn equal_to_text<A: TextEqKernel>(
     alloc: Global,
     kernel: Equality,
@@ -154,7 +162,8 @@ fn equal_to_text<A: TextEqKernel>(
     kernel.write(alloc, bits, rows.validity())
 }
 
-// Returns the order of each row and a text. Bits are shown for present rows only.
+// Compares each row with `text` by a kernel of order, and returns the text of the bits, with `x`
+// for masked rows.
 fn beside_text<A: TextOrdKernel>(
     alloc: Global,
     order: Order,

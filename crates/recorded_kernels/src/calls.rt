@@ -9,7 +9,7 @@ use crate::windows::Counted;
 use polars_compare_leaves::joining::Relation;
 use recorded_text::names::find;
 
-/// A call of one of these subjects.
+/// A call of this crate, grouped by the operands that it takes.
 #[derive(Clone, Copy)]
 pub enum Call {
     /// The rows of two arrays of one kind.
@@ -20,30 +20,30 @@ pub enum Call {
     Bytes(Question),
     /// The rows of an array, and a borrowed text.
     Text(Question),
-    /// The equal or the unequal rows of two arrays of any kind, null equal to null alone.
+    /// The missing equality or inequality of two arrays of any kind.
     Missing(Relation),
-    /// The equal rows of two arrays of any kind, by the call that takes a counter.
+    /// The missing equality of two arrays of any kind, by the function that takes a counter.
     WithSteps,
-    /// The lists whose items are all rows of an array.
+    /// The comparison of each list with all rows of an array.
     Lists(ListKind),
-    /// A law that holds by being called.
+    /// A law, which is called.
     Law(Law),
-    /// The equal rows of two windows, and the number of comparisons that were counted.
+    /// The comparison of two windows, and the number of comparisons of leaves.
     Counted(Counted),
-    /// The stored numbers for which a comparison with a number holds.
+    /// The comparison of each stored number with one number.
     Numbers,
-    /// The stored numbers of two windows for which a comparison holds.
+    /// The comparison of the stored numbers of two windows.
     NumberWindows,
-    /// Operands for which a comparison holds.
+    /// A named comparison of these operands.
     Compared(Compared),
-    /// Rows of arrays of views.
+    /// A call on rows of arrays of views.
     Views(Asked),
     /// The join of raw bits with two masks.
     Join(Join),
 }
 
 impl Call {
-    /// Returns the call of a name, or `None` for a call of another subject.
+    /// Returns the call that `name` names, or `None` if this crate has no such call.
     pub fn named(name: &str) -> Option<Call> {
         match find(&CALLS, name) {
             Some(call) => Some(call),
@@ -51,8 +51,9 @@ impl Call {
         }
     }
 
-    // Returns the call of a kernel. Its name has the suffix `_broadcast` if it compares rows with a
-    // scalar, and also the prefix `bytes_` or `text_` if the scalar is borrowed.
+    // Returns the call of the kernel that `name` names, or `None` if there is none. The name has
+    // the suffix `_broadcast` if the kernel compares rows with a scalar. It also has the prefix
+    // `bytes_` or `text_` if the scalar is borrowed.
     fn of_kernel(name: &str) -> Option<Call> {
         let Some(name) = name.strip_suffix("_broadcast") else {
             return find(&KERNELS, name).map(Call::Rows);
@@ -67,7 +68,7 @@ impl Call {
     }
 }
 
-// The calls by name, except those of kernels.
+// All calls by name, except those that `Call::of_kernel` finds.
 const CALLS: [(&str, Call); 45] = [
     ("can_compare", Call::Rows(Question::Can)),
     ("can_broadcast", Call::Scalar(Question::Can)),

@@ -24,7 +24,8 @@ pub enum Join {
     Masks,
 }
 
-// Reads what set bits mean.
+// Reads from the next word which of the two comparisons gave the raw bits: `equal` or `unequal`.
+// The error is `Word` for any other word.
 fn read_relation(words: &mut Words) -> Result<Relation, Fault> {
     match words.read()? {
         "equal" => Ok(Relation::Equal),
@@ -33,8 +34,9 @@ fn read_relation(words: &mut Words) -> Result<Relation, Fault> {
     }
 }
 
-/// Reads a relation, raw bits and two validities, and returns the text of the bits that
-/// `join_masks` makes of them. The error is `Case`, if a validity has another length than the bits.
+/// Reads a relation, raw bits and two validities from the next words, and returns the text of the
+/// bits that `join_masks` makes of them. `join` says how the masks are made. The error is `Case` if
+/// a validity has another length than the bits.
 pub fn ask(alloc: Global, join: Join, words: &mut Words) -> Result<String, Fault> {
     let relation = read_relation(words)?;
     let raw = read_bits(alloc, words.read()?)?;
@@ -42,7 +44,8 @@ pub fn ask(alloc: Global, join: Join, words: &mut Words) -> Result<String, Fault
     join_left(alloc, join, relation, raw, &left, words)
 }
 
-// Joins raw bits with a left validity, and the right one of the next words.
+// Reads the right validity from the next words, and joins `raw` with it and with `left`, the left
+// one. Returns the text of the resulting bits.
 fn join_left(
     alloc: Global,
     join: Join,
@@ -79,7 +82,7 @@ fn join_read(
     write_made(alloc, joined)
 }
 
-// Borrows a validity.
+// Returns the bits of `validity`, borrowed, or `None` if there is no validity.
 fn lent(validity: &Option<Bitmap>) -> Option<BitMask<'_>>
     ensures { result ≡ validity.now }
 {

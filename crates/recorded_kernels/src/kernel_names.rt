@@ -17,7 +17,8 @@ pub enum Question {
     Order(Order),
 }
 
-/// A kernel of equality or inequality. The missing ones define null rows too.
+/// A kernel of equality or inequality. `Equal` and `Unequal` are raw comparisons. The other two are
+/// missing comparisons, in which the bits of null rows are defined too.
 #[derive(Clone, Copy)]
 pub enum Equality {
     Equal,
@@ -27,8 +28,9 @@ pub enum Equality {
 }
 
 impl Equality {
-    /// Returns the text of the bits that a call returned for rows and a scalar. Raw bits are shown
-    /// for present rows only.
+    /// Returns the text of `bits`, the result of a broadcast by this kernel. For a raw comparison,
+    /// rows that `validity` masks are shown as `x`. If `bits` is an error, converts it to a
+    /// `Fault`.
     pub fn write(
         self,
         alloc: Global,
@@ -51,7 +53,7 @@ pub enum Order {
     GreaterOrEqual,
 }
 
-/// The kernels by name.
+/// The kernels by name, without the affixes of broadcasts.
 pub const KERNELS: [(&str, Question); 8] = [
     ("tot_eq_kernel", Question::Equality(Equality::Equal)),
     ("tot_ne_kernel", Question::Equality(Equality::Unequal)),

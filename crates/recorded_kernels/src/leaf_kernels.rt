@@ -10,8 +10,9 @@ use polars_arrays_numbers::steps::Steps;
 use polars_compare_nested::leaf_kernel::LeafKernel;
 use std::alloc::Global;
 
-/// A kernel of leaves that begins with a counter of `lent_counter`.
+/// A kernel of leaves with a counter that is created by `lent_counter`.
 pub trait SeenKernel: LeafKernel {
+    /// Creates a kernel with a counter of `lent_counter`.
     fn new() -> Self;
 
     /// Returns the count of the kernel's counter, including the count that `lent_counter` begins
@@ -29,7 +30,8 @@ impl SeenKernel for Steps {
     }
 }
 
-/// A kernel in which all leaves agree, or none.
+/// A kernel of leaves that compares nothing: any two leaves agree if `AGREE` is true, and none
+/// agree otherwise. `steps` counts the pairs of leaves.
 #[derive(Drop)]
 pub struct Same<const AGREE: bool> {
     steps: Steps,

@@ -1,5 +1,5 @@
-//! Recorded cases of kernels: equality and order of named arrays, with scalars, by windows, and of
-//! arrays of any kind with their counts.
+//! Calls of kernels in recorded cases: equality and order of two arrays, of an array and a scalar,
+//! and of two windows, some with the number of comparisons of leaves.
 #![tactic(auto)]
 
 ghost use Rattle.recorded_text.specs.Cases.{HasGoodArrays};
@@ -28,7 +28,8 @@ use recorded_text::store::Store;
 use recorded_text::words::Words;
 use std::alloc::Global;
 
-/// Returns the result of a call of these subjects, or `None` for any other call.
+/// Returns the result of `call` if this crate defines it, or `None` for any other call. `words` are
+/// the operands, which may name arrays of `store`.
 pub fn answer(
     alloc: Global,
     call: &str,
@@ -43,7 +44,7 @@ pub fn answer(
     }
 }
 
-// Returns the result of a call.
+// Returns the result of `call`, with the operands that `words` give.
 fn ask(alloc: Global, call: Call, store: &Store, words: &mut Words) -> Result<String, Fault>
     requires { HasGoodArrays store.now }
 {

@@ -54,13 +54,15 @@ const COMPARISONS: [(&str, NamedComparison); 6] = [
 ];
 
 impl NamedComparison {
-    /// Returns the comparison that the next word names.
+    /// Reads the name of a comparison from the next word. The error is `Word` if there is no such
+    /// name.
     pub fn read(words: &mut Words) -> Result<NamedComparison, Fault> {
         find_word(&COMPARISONS, words.read()?)
     }
 }
 
-/// Calls a function with the comparison of a name.
+/// Evaluates `$each`, where `$named` is a reference to the comparison, such as `&Equal`, that the
+/// `NamedComparison` `$comparison` stands for.
 macro_rules! with_comparison {
     ($comparison:expr, $named:ident => $each:expr) => {
         match $comparison {
@@ -109,18 +111,24 @@ pub enum Compared {
     TwoViews,
     /// A row of an array of views, and a byte string.
     ViewAndString,
-    /// The stored rows of an array and a constant: truth values, byte strings, and those in views.
+    /// The stored truth values of an array, and a constant.
     Truths,
+    /// The stored byte strings of an array, and a constant.
     Strings,
+    /// The stored byte strings of an array of views, and a constant.
     Views,
-    /// The stored rows of two windows.
+    /// The stored truth values of two windows.
     TruthWindows,
+    /// The stored byte strings of two windows.
     StringWindows,
+    /// The stored byte strings of two windows of `FixedSizeBinary` arrays.
     SizedWindows,
+    /// The stored byte strings of two windows of arrays of views.
     ViewWindows,
 }
 
-/// Returns the results of the comparison that the next word names.
+/// Reads the name of a comparison from the next word, and its operands from the words after it.
+/// `compared` says what the operands are. Returns the text of the result.
 pub fn ask(
     alloc: Global,
     compared: Compared,
@@ -133,7 +141,8 @@ pub fn ask(
     with_comparison!(comparison, comparison => ask_by(alloc, comparison, compared, store, words))
 }
 
-// Returns the results of a comparison.
+// Reads the operands of `comparison`, which `compared` describes, from the next words. Returns the
+// text of the result.
 fn ask_by<C: TruthComparison + ByteComparison + ViewComparison>(
     alloc: Global,
     comparison: &C,
@@ -158,7 +167,7 @@ fn ask_by<C: TruthComparison + ByteComparison + ViewComparison>(
     }
 }
 
-// Compares two truth values.
+// Reads two truth values, and returns the text that says whether `comparison` holds for them.
 fn compare_truths<C: TruthComparison>(
     alloc: Global,
     comparison: &C,
@@ -169,7 +178,8 @@ fn compare_truths<C: TruthComparison>(
     write_truth(alloc, comparison.compare(left, right))
 }
 
-// Compares the bits of two windows.
+// Reads the bits of two windows from the next two words, and compares them at each place. Returns
+// the text of the resulting bits. The error is `Case` if the lengths differ.
 fn compare_bits<C: TruthComparison>(
     alloc: Global,
     comparison: &C,
@@ -180,7 +190,8 @@ fn compare_bits<C: TruthComparison>(
     write_passing(alloc, comparison, &left, &right)
 }
 
-// Compares the bits of two bitmaps of equal length.
+// Compares the bits of `left` and `right` at each place, and returns the text of the resulting
+// bits. The error is `Case` if the lengths differ.
 fn write_passing<C: TruthComparison>(
     alloc: Global,
     comparison: &C,
@@ -194,7 +205,8 @@ fn write_passing<C: TruthComparison>(
     write_made(alloc, comparison.compare_bits(alloc, &left, &right))
 }
 
-// Compares two byte strings, by a call of `ByteComparison`.
+// Reads two byte strings, and returns the text that says whether `comparison` holds for them. Calls
+// `compare` if `compared` is `TwoStrings`, and `compare_constant` otherwise.
 fn compare_strings<C: ByteComparison>(
     alloc: Global,
     comparison: &C,

@@ -1,7 +1,7 @@
 //! The arrays inside arrays of any kind, for calls that exist for several kinds.
 
-/// Calls a function with the array inside an array of any kind. For kinds that are not named it is
-/// an error.
+/// Evaluates `$each`, where `$array` is the array inside `$any`, if its kind is one of `$kind`. For
+/// other kinds, the result is the error `Case`.
 macro_rules! of_kind {
     ($any:expr, $array:ident => $each:expr, $($kind:ident)+) => {
         match $any {
@@ -13,8 +13,9 @@ macro_rules! of_kind {
 
 pub(crate) use of_kind;
 
-/// Calls a function with the arrays inside two arrays of one kind. For kinds that are not named it
-/// is an error, or the expression for others of the first array, if it is given.
+/// Evaluates `$each`, where `$left` and `$right` are the arrays inside `$these` and `$those`, if
+/// both are of the same kind and it is one of `$kind`. If the kind of `$these` is not one of them,
+/// evaluates `$others` if it is given. In all other cases, the result is the error `Case`.
 macro_rules! of_one_kind {
     ($these:expr, $those:expr, $left:ident, $right:ident => $each:expr, $($kind:ident)+) => {
         of_one_kind!($these, $those, $left, $right => $each, $($kind)+, _ => Err(Fault::Case))

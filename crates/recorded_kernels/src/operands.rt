@@ -11,7 +11,8 @@ use recorded_text::store::Store;
 use recorded_text::words::Words;
 use std::alloc::Global;
 
-/// Returns the two arrays that the next words name.
+/// Returns the two arrays of `store` that the next two words name. The error is `Word` if a word is
+/// missing, and `Case` if there is no array of a name.
 pub fn read_two<'a>(
     store: &'a Store,
     words: &mut Words,
@@ -30,7 +31,7 @@ pub fn read_next_bytes(alloc: Global, words: &mut Words) -> Result<Vec<u8>, Faul
     read_bytes(alloc, words.read()?)
 }
 
-/// Reads a truth value from the next word.
+/// Reads a truth value from the next word. The error is `Word` if it is not `true` or `false`.
 pub fn read_truth(words: &mut Words) -> Result<bool, Fault> {
     match words.read()? {
         "true" => Ok(true),

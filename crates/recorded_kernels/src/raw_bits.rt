@@ -7,7 +7,8 @@ use recorded_text::bits_text::write_unmasked;
 use recorded_text::fault::Fault;
 use std::alloc::Global;
 
-/// Returns the text of raw bits under the masks that calls returned.
+/// Returns the text of `bits`, with `x` for each row that the mask `left` or `right` masks. If
+/// `left` or `right` is an error, converts it to a `Fault`.
 pub fn write_raw(
     alloc: Global,
     bits: &Bitmap,

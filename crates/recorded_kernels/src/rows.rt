@@ -23,7 +23,8 @@ use recorded_text::store::Store;
 use recorded_text::words::Words;
 use std::alloc::Global;
 
-/// Compares the rows of the two arrays of one kind that the next words name.
+/// Reads the names of two arrays of one kind, and returns the text of the answer to `question`
+/// about their rows. The error is `Case` if the kinds differ, or if the kernel can't be called.
 pub fn ask(
     alloc: Global,
     question: Question,
@@ -36,7 +37,8 @@ pub fn ask(
     ask_kinds(alloc, question, these, those)
 }
 
-// Compares the rows of two arrays of one kind.
+// Returns the text of the answer to `question` about the rows of two arrays. The error is `Case` if
+// their kinds differ, or if the kernel can't be called on these arrays.
 fn ask_kinds(
     alloc: Global,
     question: Question,
@@ -64,7 +66,8 @@ fn ask_ordered_kinds(
         _ => ask_both(alloc, AskedBoth::Rows(question), these, those))
 }
 
-/// Compares rows that have an order.
+/// Returns the text of the answer to `question` about the rows of two arrays of a kind that has an
+/// order. The error is `Case` if the kernel can't be called on these arrays.
 pub fn ask_rows<A: TotalEqKernel + TotalOrdKernel>(
     alloc: Global,
     question: Question,
@@ -80,7 +83,8 @@ pub fn ask_rows<A: TotalEqKernel + TotalOrdKernel>(
     }
 }
 
-// Compares rows that have an equality.
+// Returns the text of the answer to `question` about the rows of two arrays. The error is `Case` if
+// it asks for an order, or for equality of arrays that can't be compared.
 fn equal_rows<A: TotalEqKernel>(
     alloc: Global,
     question: Question,
@@ -98,8 +102,8 @@ fn equal_rows<A: TotalEqKernel>(
     }
 }
 
-// Returns for each place whether the rows are equal. Raw bits are shown only where both rows are
-// present.
+// Compares the rows by a kernel of equality, and returns the text of the bits. Bits of raw
+// comparisons are shown as `x` where either row is masked.
 fn where_equal<A: TotalEqKernel>(
     alloc: Global,
     kernel: Equality,
@@ -128,7 +132,8 @@ fn where_equal<A: TotalEqKernel>(
     )
 }
 
-// Returns for each place the order of the rows. Bits are shown only where both rows are present.
+// Compares the rows by a kernel of order, and returns the text of the bits, with `x` where either
+// row is null. The error is `Case` if the lengths differ.
 fn ordered_rows<A: TotalOrdKernel>(
     alloc: Global,
     order: Order,

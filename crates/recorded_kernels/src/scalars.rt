@@ -27,8 +27,9 @@ use recorded_text::words::Words;
 use std::alloc::Global;
 use std::str::from_utf8;
 
-/// Compares the array that the next word names with the scalar after it, which is written or named
-/// as its kind requires.
+/// Reads the name of an array and a scalar from the next two words, and returns the text of the
+/// answer to `question` about them. The kind of the array decides how the scalar is written or
+/// named.
 pub fn ask(
     alloc: Global,
     question: Question,
@@ -56,7 +57,8 @@ pub fn ask(
     }
 }
 
-// Compares byte strings with the one of the next word.
+// Reads a byte string, and returns the text of the answer to `question` about `array` and this
+// scalar. The error is `Case` if the kernel does not exist for the kind of the array.
 fn ask_bytes(
     alloc: Global,
     question: Question,
@@ -73,7 +75,7 @@ fn ask_bytes(
     }
 }
 
-// Compares texts with the one of the next word.
+// Reads a text, and returns the text of the answer to `question` about `array` and this scalar.
 fn ask_text(
     alloc: Global,
     question: Question,
@@ -84,7 +86,7 @@ fn ask_text(
     of_kind!(array, rows => ask_scalar(alloc, question, rows, &text), Utf8 LargeUtf8 Utf8View)
 }
 
-// Reads a text from the next word, where it is written as bytes.
+// Reads a text, written as bytes, from the next word. The error is `Word` if it is not UTF-8.
 fn read_text(alloc: Global, words: &mut Words) -> Result<String, Fault> {
     let bytes = read_next_bytes(alloc, words)?;
     match from_utf8(&bytes) {
@@ -93,7 +95,9 @@ fn read_text(alloc: Global, words: &mut Words) -> Result<String, Fault> {
     }
 }
 
-// Compares lists of each kind, structs, dictionaries and nulls with an array.
+// Returns the text of the answer to `question` about `array`, which has lists, structs, dictionary
+// entries or nulls as rows, and `scalar`. The error is `Case` for other kinds or questions of
+// order.
 fn ask_array(
     alloc: Global,
     question: Question,
@@ -107,7 +111,7 @@ fn ask_array(
         Null List FixedSizeList Struct Dictionary)
 }
 
-/// Compares rows that have an order with a scalar.
+/// Returns the text of the answer to `question` about rows that have an order and `scalar`.
 pub fn ask_scalar<S, A: TotalEqKernel<Scalar = S> + TotalOrdKernel<Scalar = S>>(
     alloc: Global,
     question: Question,
@@ -123,7 +127,8 @@ pub fn ask_scalar<S, A: TotalEqKernel<Scalar = S> + TotalOrdKernel<Scalar = S>>(
     }
 }
 
-// Compares rows that have an equality with a scalar.
+// Returns the text of the answer to `question` about `rows` and `scalar`. The error is `Case` if it
+// asks for an order, or if `can_broadcast` returns `false` for a kernel of equality.
 fn ask_equality<A: TotalEqKernel>(
     alloc: Global,
     question: Question,
@@ -141,7 +146,8 @@ fn ask_equality<A: TotalEqKernel>(
     }
 }
 
-// Returns for each row whether it is equal to a scalar.
+// Compares each row with `scalar` by a kernel of equality. Returns the text of the bits, or
+// `refused: WHY` if the kernel returns an error other than a failed allocation.
 fn where_equal<A: TotalEqKernel>(
     alloc: Global,
     kernel: Equality,
@@ -164,7 +170,8 @@ fn where_equal<A: TotalEqKernel>(
     }
 }
 
-// Returns the error of a call, unless it is a failed allocation.
+// Returns the text `refused: WHY` for the error `refused` of a kernel. If it is a failed
+// allocation, the error is `Memory`.
 fn why_refused(alloc: Global, refused: ComputeError) -> Result<String, Fault> {
     match refused {
         ComputeError::Memory(_) => Err(Fault::Memory),
@@ -172,7 +179,8 @@ fn why_refused(alloc: Global, refused: ComputeError) -> Result<String, Fault> {
     }
 }
 
-// Returns the order of each row and a scalar. Bits are shown for present rows only.
+// Compares each row with `scalar` by a kernel of order, and returns the text of the bits, with `x`
+// for masked rows.
 fn ordered<A: TotalOrdKernel>(
     alloc: Global,
     order: Order,

@@ -37,7 +37,7 @@ use std::str::FromStr;
 pub enum Asked {
     /// A kernel of the rows and the number.
     Scalar(Question),
-    /// A comparison of the stored numbers with it.
+    /// A comparison of each stored number with the number.
     Passing(NamedComparison),
 }
 
@@ -50,7 +50,8 @@ pub enum AskedBoth<'a> {
     Passing(NamedComparison, Windows<'a>),
 }
 
-/// Compares the numbers of an array with the number of a word.
+/// Reads a comparison, the name of an array and a number from the next words. Returns the text of
+/// the bits that say for each stored number whether the comparison with that number holds.
 pub fn beside(alloc: Global, store: &Store, words: &mut Words) -> Result<String, Fault>
     requires { HasGoodArrays store.now }
 {
@@ -59,7 +60,8 @@ pub fn beside(alloc: Global, store: &Store, words: &mut Words) -> Result<String,
     ask_next(alloc, Asked::Passing(comparison), array, words)
 }
 
-/// Compares the numbers of two windows.
+/// Reads a comparison and two windows from the next words. Returns the text of the bits that say
+/// for each place whether the comparison of the stored numbers holds.
 pub fn windows(alloc: Global, store: &Store, words: &mut Words) -> Result<String, Fault>
     requires { HasGoodArrays store.now }
 {
@@ -73,7 +75,9 @@ pub fn windows(alloc: Global, store: &Store, words: &mut Words) -> Result<String
     )
 }
 
-/// Returns the result of a call on an array of numbers and the number of the next word.
+/// Reads a number, and returns the text of the result of `asked` for `array` and this number. The
+/// error is `Case` if the array does not hold numbers, and `Word` if its type does not have the
+/// number.
 pub fn ask_next(
     alloc: Global,
     asked: Asked,
@@ -84,7 +88,7 @@ pub fn ask_next(
         Int8 Int16 Int32 Int64 Int128 UInt8 UInt16 UInt32 UInt64 UInt128)
 }
 
-// Returns the result of a call on numbers of one type and the number of the next word.
+// Reads a number of type `T`, and returns the text of the result of `asked` for `numbers` and it.
 fn ask_numbers<T: NativeType + FromStr<Err: Drop>>(
     alloc: Global,
     asked: Asked,
@@ -100,7 +104,7 @@ fn ask_numbers<T: NativeType + FromStr<Err: Drop>>(
     }
 }
 
-// Compares numbers of one type with one number.
+// Returns a bit for each stored number: 1 if `comparison` holds for it and `number`.
 fn passing<T: NativeType>(
     alloc: Global,
     comparison: NamedComparison,
@@ -110,7 +114,8 @@ fn passing<T: NativeType>(
     with_comparison!(comparison, comparison => compare_number(alloc, comparison, numbers, number))
 }
 
-/// Returns the result of a call on two arrays of numbers of one type.
+/// Returns the text of the result of `asked` for two arrays of numbers of one type. The error is
+/// `Case` if their types differ, if they do not hold numbers, or if a window is out of range.
 pub fn ask_both(
     alloc: Global,
     asked: AskedBoth<'_>,
@@ -121,7 +126,8 @@ pub fn ask_both(
         Int8 Int16 Int32 Int64 Int128 UInt8 UInt16 UInt32 UInt64 UInt128)
 }
 
-// Returns the result of a call on numbers of one type on both sides.
+// Returns the text of the result of `asked` for two arrays of numbers of type `T`. The error is
+// `Case` if a window is out of range.
 fn ask_pair<T: NativeType>(
     alloc: Global,
     asked: AskedBoth<'_>,
@@ -143,7 +149,8 @@ fn ask_pair<T: NativeType>(
     }
 }
 
-// Compares numbers of one type, in windows that lie within the arrays.
+// Returns a bit for each `i` below `n`: 1 if `comparison` holds for the stored number `a + i` of
+// `left` and `b + i` of `right`.
 fn passing_pairs<T: NativeType>(
     alloc: Global,
     comparison: NamedComparison,

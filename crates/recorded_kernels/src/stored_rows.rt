@@ -33,7 +33,9 @@ use recorded_text::store::Store;
 use recorded_text::words::Words;
 use std::alloc::Global;
 
-/// Compares the rows of two windows, by the call for their kind.
+/// Reads two windows, and compares their stored rows by the function for `compared`. Returns the
+/// text of the bits. The error is `Case` if the arrays are of another kind, or a window is out of
+/// range.
 pub fn ask_windows<C: TruthComparison + ByteComparison + ViewComparison>(
     alloc: Global,
     comparison: &C,
@@ -52,7 +54,8 @@ pub fn ask_windows<C: TruthComparison + ByteComparison + ViewComparison>(
     }
 }
 
-// Compares the truth values of two windows.
+// Returns the text of the bits that compare the stored truth values of two windows. The error is
+// `Case` if the arrays are not both of kind `Boolean`.
 fn truth_windows<C: TruthComparison>(
     alloc: Global,
     comparison: &C,
@@ -76,8 +79,8 @@ fn truth_windows<C: TruthComparison>(
     )
 }
 
-// Compares the byte strings of two windows. Those of a binary array may be compared with texts in
-// views too.
+// Returns the text of the bits that compare the stored byte strings of two windows. The arrays must
+// be of one kind, or of the kinds `Binary` and `Utf8View`. Otherwise the error is `Case`.
 fn string_windows<C: ByteComparison>(
     alloc: Global,
     comparison: &C,
@@ -95,7 +98,8 @@ fn string_windows<C: ByteComparison>(
     }
 }
 
-// Compares byte strings.
+// Returns the text of the bits that compare the byte strings of `left` and `right` in the two
+// windows. The error is `Case` if a window is out of range.
 fn strings<L: ByteRows, R: ByteRows, C: ByteComparison>(
     alloc: Global,
     comparison: &C,
@@ -113,7 +117,8 @@ fn strings<L: ByteRows, R: ByteRows, C: ByteComparison>(
     )
 }
 
-// Compares byte strings in two windows, of one size in each array.
+// Returns the text of the bits that compare the stored rows of windows of two `FixedSizeBinary`
+// arrays. The error is `Case` if an array is of another kind, or a window is out of range.
 fn sized_windows<C: ByteComparison>(
     alloc: Global,
     comparison: &C,
@@ -138,8 +143,9 @@ fn sized_windows<C: ByteComparison>(
     )
 }
 
-// Compares byte strings in views in two windows, and returns also the number of pairs looked up in
-// buffers.
+// Returns the text of the bits that compare the stored rows of windows of two arrays of views, and
+// the number of pairs looked up in buffers. The error is `Case` if an array is of another kind, or
+// a window is out of range.
 fn view_windows<C: ViewComparison>(
     alloc: Global,
     comparison: &C,
@@ -156,8 +162,8 @@ fn view_windows<C: ViewComparison>(
     write_followed(alloc, bits, &steps)
 }
 
-/// Compares each row of an array with a constant, which is the next word, by the function for the
-/// array's kind.
+/// Reads the name of an array and a constant, and returns the text of the bits that compare each
+/// stored row with the constant. The error is `Case` if the array's kind does not fit `compared`.
 pub fn ask_constant<C: TruthComparison + ByteComparison + ViewComparison>(
     alloc: Global,
     comparison: &C,
@@ -192,7 +198,8 @@ fn strings_beside<C: ByteComparison>(
     passing_strings(alloc, comparison, array, &bytes)
 }
 
-// Compares the byte strings of an array with one.
+// Returns the text of the bits that compare each stored byte string or text of `array` with
+// `bytes`. The error is `Case` if `array` is of another kind.
 fn passing_strings<C: ByteComparison>(
     alloc: Global,
     comparison: &C,

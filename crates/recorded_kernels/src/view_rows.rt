@@ -55,7 +55,7 @@ pub enum Asked {
     ScalarPrefix,
 }
 
-/// Returns the result of a call on the rows that words name.
+/// Returns the text of the result of the call `asked`, with the operands that `words` give.
 pub fn ask(alloc: Global, asked: Asked, store: &Store, words: &mut Words) -> Result<String, Fault>
     requires { HasGoodArrays store.now }
 {
@@ -70,7 +70,7 @@ pub fn ask(alloc: Global, asked: Asked, store: &Store, words: &mut Words) -> Res
     }
 }
 
-/// Returns the array of views inside an array of any kind.
+/// Returns the array of views inside `array`. The error is `Case` if it is of another kind.
 pub fn as_views(array: &AnyArray) -> Result<&BinaryViewArray, Fault> {
     match array {
         AnyArray::BinaryView(views) => Ok(views),
@@ -79,7 +79,8 @@ pub fn as_views(array: &AnyArray) -> Result<&BinaryViewArray, Fault> {
     }
 }
 
-// Reads an array of views, and the index of a row.
+// Reads the name of an array of views, and the index of a row. The error is `Case` if the array is
+// of another kind or the index is out of range.
 fn read_row<'a>(store: &'a Store, words: &mut Words) -> Result<(&'a BinaryViewArray, usize), Fault>
     requires { HasGoodArrays store.now }
     ensures { IfOk result (λ row. row.1 < length row.0.now.views) }
@@ -93,12 +94,13 @@ fn read_row<'a>(store: &'a Store, words: &mut Words) -> Result<(&'a BinaryViewAr
     }
 }
 
-// Returns the text of a truth value, and the number of pairs looked up for it.
+// Returns `truth in N`, where N is the count of `steps`, which began at 0.
 fn write_counted(alloc: Global, truth: bool, steps: &Steps) -> Result<String, Fault> {
     Ok(format!(in alloc; "{truth} in {}", steps.seen())?)
 }
 
-/// Returns the text of bits, and the number of pairs looked up for them.
+/// Returns the text of `bits` and the increase of `steps`, a counter of `lent_counter`. If `bits`
+/// is an error, converts it to a `Fault`.
 pub fn write_followed(
     alloc: Global,
     bits: Result<Bitmap, ComputeError>,
@@ -107,7 +109,8 @@ pub fn write_followed(
     add_count(write_made(alloc, bits), steps.seen(), "")
 }
 
-// Returns whether two rows are equal, or whether the first is less.
+// Reads two rows, and returns the text that says whether they are equal, or for `Less`, whether the
+// first is less, with the number of pairs looked up.
 fn two_rows(alloc: Global, asked: Asked, store: &Store, words: &mut Words) -> Result<String, Fault>
     requires { HasGoodArrays store.now }
 {
@@ -121,7 +124,8 @@ fn two_rows(alloc: Global, asked: Asked, store: &Store, words: &mut Words) -> Re
     write_counted(alloc, truth, &steps)
 }
 
-/// Compares two rows.
+/// Reads two rows, and returns the text that says whether `comparison` holds for them, with the
+/// number of pairs looked up in buffers.
 pub fn compare_two<C: ViewComparison>(
     alloc: Global,
     comparison: &C,
@@ -137,7 +141,8 @@ pub fn compare_two<C: ViewComparison>(
     write_counted(alloc, passes, &steps)
 }
 
-// Returns whether a row is equal to bytes, or less than they are.
+// Reads a row and a byte string. Returns the text that says whether they are equal, or for
+// `LessThanBytes`, whether the row is less.
 fn row_and_bytes(
     alloc: Global,
     asked: Asked,
@@ -156,7 +161,7 @@ fn row_and_bytes(
     write_truth(alloc, truth)
 }
 
-// Returns whether bytes are less than a row.
+// Reads a byte string and a row, and returns the text that says whether the string is less.
 fn bytes_and_row(alloc: Global, store: &Store, words: &mut Words) -> Result<String, Fault>
     requires { HasGoodArrays store.now }
 {
@@ -166,7 +171,7 @@ fn bytes_and_row(alloc: Global, store: &Store, words: &mut Words) -> Result<Stri
     write_truth(alloc, less)
 }
 
-/// Compares a row with bytes.
+/// Reads a row and a byte string, and returns the text that says whether `comparison` holds.
 pub fn compare_with_bytes<C: ViewComparison>(
     alloc: Global,
     comparison: &C,
@@ -181,7 +186,7 @@ pub fn compare_with_bytes<C: ViewComparison>(
     write_truth(alloc, passes)
 }
 
-// Compares the stored rows of the two arrays of one kind that words name.
+// Reads the names of two arrays of views of one kind, and returns the result of `rows_followed`.
 fn all_rows(alloc: Global, asked: Asked, store: &Store, words: &mut Words) -> Result<String, Fault>
     requires { HasGoodArrays store.now }
 {
@@ -190,8 +195,9 @@ fn all_rows(alloc: Global, asked: Asked, store: &Store, words: &mut Words) -> Re
         BinaryView Utf8View)
 }
 
-// Returns for each place whether the stored rows are equal or less, and the number of pairs looked
-// up; or the numbers of pairs for both.
+// Returns the text of the bits that say where stored rows are equal, or less for `LessRows`, and of
+// the number of pairs looked up. For `Followed`, returns the two numbers of `pairs_followed`. The
+// error is `Case` if the lengths differ.
 fn rows_followed<A: FollowedKernel>(
     alloc: Global,
     asked: Asked,
@@ -210,7 +216,7 @@ fn rows_followed<A: FollowedKernel>(
     write_followed(alloc, bits, &steps)
 }
 
-// Returns the numbers of pairs of rows that equality and order look up.
+// Returns the text of two numbers: the pairs of rows looked up by equality, and by order.
 fn pairs_followed<A: FollowedKernel>(alloc: Global, left: &A, right: &A) -> Result<String, Fault>
     requires { length (A.strings right.now) ≡ length (A.strings left.now) }
 {
@@ -221,14 +227,14 @@ fn pairs_followed<A: FollowedKernel>(alloc: Global, left: &A, right: &A) -> Resu
     Ok(format!(in alloc; "{} {}", equal.seen(), less.seen())?)
 }
 
-// Prepares the byte string of a word, and returns a part of it.
+// Reads a byte string, prepares it as a `ScalarRow`, and returns the part that `asked` names.
 fn scalar(alloc: Global, asked: Asked, words: &mut Words) -> Result<String, Fault> {
     let bytes = read_next_bytes(alloc, words)?;
     write_scalar(alloc, asked, &ScalarRow::new(&bytes))
 }
 
-// Returns the length of a scalar, its bytes, or its first four bytes as its view has them, as a
-// big-endian number.
+// Returns the text of the length of `scalar`, of its bytes, or of the prefix of its view as a
+// big-endian number. `asked` says which.
 fn write_scalar(alloc: Global, asked: Asked, scalar: &ScalarRow<'_>) -> Result<String, Fault> {
     match asked {
         Asked::ScalarLen => Ok(scalar.len().to_string(alloc)?),

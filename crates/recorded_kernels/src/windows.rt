@@ -62,8 +62,9 @@ pub enum Counted {
     Leaves,
 }
 
-/// Returns the result of a call on the windows of the next words, by the kernel of leaves that a
-/// last word may name.
+/// Reads two windows, or two whole arrays for `Missing`, and then `always` or `never` if there is
+/// such a word. Returns the text of the bits of `call` and the number of comparisons of leaves. The
+/// error is `Case` if the types differ, or a window is out of range.
 pub fn ask(alloc: Global, call: Counted, store: &Store, words: &mut Words) -> Result<String, Fault>
     requires { HasGoodArrays store.now }
 {
@@ -83,7 +84,8 @@ pub fn ask(alloc: Global, call: Counted, store: &Store, words: &mut Words) -> Re
     }
 }
 
-// Reads an array by name, and a place in it.
+// Reads the name of an array and a number from the next two words. The number is not checked
+// against the length of the array.
 fn read_place<'a>(store: &'a Store, words: &mut Words) -> Result<(&'a AnyArray, usize), Fault>
     requires { HasGoodArrays store.now }
     ensures { IfOk result (λ place. IsGood place.0.now) }
@@ -93,7 +95,8 @@ fn read_place<'a>(store: &'a Store, words: &mut Words) -> Result<(&'a AnyArray, 
     Ok((array, at))
 }
 
-/// Reads windows, which must lie within their arrays.
+/// Reads `A a B b n` from the next words, and returns the two windows. The error is `Case` if a
+/// window is out of range.
 pub fn read_windows<'a>(store: &'a Store, words: &mut Words) -> Result<Windows<'a>, Fault>
     requires { HasGoodArrays store.now }
     ensures { IfOk result (λ windows. AreWindows windows) }
@@ -114,7 +117,8 @@ pub fn read_windows<'a>(store: &'a Store, words: &mut Words) -> Result<Windows<'
     }
 }
 
-// Returns all rows of the two arrays of equal length that words name.
+// Reads the names of two arrays, and returns windows of all their rows. The error is `Case` if
+// their lengths differ.
 fn read_all_rows<'a>(store: &'a Store, words: &mut Words) -> Result<Windows<'a>, Fault>
     requires { HasGoodArrays store.now }
     ensures { IfOk result (λ windows. AreWindows windows) }
@@ -140,8 +144,8 @@ pub fn is_within(at: usize, n: usize, len: usize) -> bool
     at <= len && n <= len - at
 }
 
-// Returns the result of a call on two windows by a kernel of leaves, and the number of comparisons
-// counted.
+// Returns the text of the bits of `call` for two windows by a new kernel of type `K`, and the
+// number of comparisons that the kernel has counted.
 fn compare<K: SeenKernel + Drop>(
     alloc: Global,
     call: Counted,
@@ -155,7 +159,8 @@ fn compare<K: SeenKernel + Drop>(
     add_count(text, kernel.seen(), COMPARISONS)
 }
 
-// Returns the result of a call on two windows by a kernel of leaves.
+// Returns the text of the bits of `call` for two windows by `kernel`. The error is `Case` if the
+// arrays are of a kind that `call` does not compare.
 fn compare_by<K: LeafKernel>(
     alloc: Global,
     call: Counted,
@@ -171,8 +176,8 @@ fn compare_by<K: LeafKernel>(
     }
 }
 
-// Returns the bits of two windows of one type by a call that defines each bit, or `None` for
-// another call.
+// Returns the bits of `Windows` or `Missing`, which are defined for null rows too. Returns `None`
+// for any other call, and for `Missing` if the lengths of the arrays differ.
 fn equal_bits<K: LeafKernel>(
     alloc: Global,
     call: Counted,
@@ -202,8 +207,8 @@ fn equal_bits<K: LeafKernel>(
     }
 }
 
-// Calls the kernel method that `call` names on the stored slots of two windows of one type, which
-// ignores nulls. Returns `None` if the windows are not of a kind that this method compares.
+// Compares the stored rows of two windows of one type by the function that `call` names, and
+// returns the bits. Returns `None` if the arrays are not of a kind that this function compares.
 fn stored_bits<K: LeafKernel>(
     alloc: Global,
     call: Counted,
@@ -239,7 +244,8 @@ fn stored_bits<K: LeafKernel>(
     }
 }
 
-// Returns the text of the raw bits that a call returned for two windows, if there are any.
+// Returns the text of `bits`, with `x` where a row of either window is masked. The error is `Case`
+// if `bits` is `None`. If `bits` holds an error, converts it to a `Fault`.
 fn write_stored(
     alloc: Global,
     bits: Option<Result<Bitmap, ComputeError>>,
@@ -265,7 +271,7 @@ fn write_stored(
     )
 }
 
-// Returns whether the rows of an array are leaves.
+// Returns whether the rows of `array` are leaves: truth values, numbers, byte strings or texts.
 fn has_leaves(array: &AnyArray) -> bool
     ensures { IsTrue result → IsTrue (is_leaf (type_of array.now)) }
 {

@@ -1,10 +1,10 @@
-//! Counts of the bits of each row, and reductions of the bits of all rows, of truth values and of
+//! Calls that count the bits of each row, or reduce the bits of all rows. Rows are truth values or
 //! numbers of 8 to 64 bits.
 //!
-//! - `count_ones A`, and so of `count_zeros`, `leading_ones`, `leading_zeros`, `trailing_ones` and
-//!   `trailing_zeros`: the rows of the counts
-//! - `reduce_and A`, and so of `or` and `xor`: a number or a truth value, or `none` if no row is
-//!   present
+//! - `count_ones A`, `count_zeros A`, `leading_ones A`, `leading_zeros A`, `trailing_ones A`,
+//!   `trailing_zeros A`: the count of each row, or `null` for a null row, separated by spaces
+//! - `reduce_and A`, `reduce_or A`, `reduce_xor A`: a number or a truth value, or `none` if no row
+//!   is present
 
 use crate::calls::{BitQuestion, Count, Join};
 use crate::found_text::push_found;
@@ -19,7 +19,8 @@ use recorded_text::fault::Fault;
 use std::alloc::Global;
 use std::fmt::Display;
 
-/// Appends the result of a call on an array's rows.
+/// Appends the result of `question` for the rows of `array` to `text`. The error is `Case` if the
+/// rows are neither truth values nor numbers of 8 to 64 bits, or else `Memory`.
 pub fn push_answer(
     alloc: Global,
     text: &mut String,
@@ -30,7 +31,7 @@ pub fn push_answer(
         Boolean Int8 Int16 Int32 Int64 UInt8 UInt16 UInt32 UInt64)
 }
 
-// Appends the result of a call on rows of one kind.
+// Appends the result of `question` for `rows` to `text`.
 fn push_of_rows<K: BitwiseKernel<Scalar: Copy + Display>>(
     alloc: Global,
     text: &mut String,
@@ -43,7 +44,7 @@ fn push_of_rows<K: BitwiseKernel<Scalar: Copy + Display>>(
     }
 }
 
-// Returns the counts of rows of one kind.
+// Returns the count `count` for each of `rows`. Null rows stay null. The error is `Memory`.
 fn count_each<K: BitwiseKernel>(
     alloc: Global,
     count: Count,
@@ -59,7 +60,8 @@ fn count_each<K: BitwiseKernel>(
     }
 }
 
-// Appends the counts that a call returned.
+// Appends the counts in `made` to `text`, and drops the array. If `made` is an error, returns
+// `Memory` for a failed allocation, or else `Case`.
 fn push_made(
     text: &mut String,
     made: Result<PrimitiveArray<u32>, ComputeError>,
@@ -67,7 +69,7 @@ fn push_made(
     push_counts(text, &made?)
 }
 
-// Appends the rows of an array of counts, separated by spaces.
+// Appends each count, or `null` for a null row, to `text`, separated by spaces.
 fn push_counts(text: &mut String, counts: &PrimitiveArray<u32>) -> Result<(), Fault> {
     for (i, count) in counts.values().iter().enumerate() {
         let space = if i > 0 { " " } else { "" };
@@ -81,7 +83,7 @@ fn push_counts(text: &mut String, counts: &PrimitiveArray<u32>) -> Result<(), Fa
     Ok(())
 }
 
-// Returns the reduction of rows of one kind.
+// Returns the present ones of `rows` joined by the operator `join`, or `None` if no row is present.
 fn reduced<K: BitwiseKernel>(join: Join, rows: &K) -> Option<K::Scalar> {
     match join {
         Join::And => rows.reduce_and(),

@@ -1,26 +1,26 @@
-//! The calls by name.
+//! The calls of this crate, and the names that lines use for them.
 
-/// A call.
+/// A call of this crate.
 #[derive(Clone, Copy)]
 pub enum Call {
     /// A call on the bits of the rows of an array.
     Bits(BitQuestion),
-    /// The extremes of a part of an array.
+    /// A call for extremes. The fields say what is compared, and which extremes are returned.
     Extremes(Subject, Extremes),
-    /// The extremes of an array of any kind.
+    /// A call for the extremes of an array of any kind. The field says which are returned.
     Dispatched(Extremes),
-    /// A call for the best byte string.
+    /// A call for the best byte string of an array.
     Best(Best),
-    /// An operator on the bits of two scalars.
+    /// A call that joins two scalars bit by bit.
     Join(Join),
 }
 
 /// A call on the bits of the rows of an array.
 #[derive(Clone, Copy)]
 pub enum BitQuestion {
-    /// The count of them in each row.
+    /// A count of bits in each row.
     Count(Count),
-    /// Their reduction over all rows.
+    /// A reduction of all present rows by a bitwise operator.
     Reduce(Join),
 }
 
@@ -35,7 +35,7 @@ pub enum Count {
     TrailingZeros,
 }
 
-/// An operator that joins two bits.
+/// A bitwise operator on two operands.
 #[derive(Clone, Copy)]
 pub enum Join {
     And,
@@ -43,20 +43,22 @@ pub enum Join {
     Xor,
 }
 
-/// The part of an array whose extremes are computed.
+/// The values of an array that a call for extremes compares.
 #[derive(Clone, Copy)]
 pub enum Subject {
-    /// Its rows, which are numbers or truth values.
+    /// The present rows of an array of numbers or truth values.
     Rows,
-    /// The numbers that it stores.
+    /// The stored numbers of an array, including those of null rows.
     Stored,
-    /// Its byte strings.
+    /// The present rows of an array of byte strings.
     Bytes,
-    /// Its texts.
+    /// The present rows of an array of texts.
     Texts,
 }
 
-/// A call for one extreme or for both, under one of its two names.
+/// A selection of extremes: the least (`Min`), the greatest (`Max`) or both (`MinMax`). `Ignore`
+/// stands for the calls with `ignore_nan` in their name, and `Propagate` for those with
+/// `propagate_nan`.
 #[derive(Clone, Copy)]
 pub enum Extremes {
     MinIgnore,
@@ -67,14 +69,16 @@ pub enum Extremes {
     MinMaxPropagate,
 }
 
-/// A call for the best byte string.
+/// A call for the best byte string of an array.
 #[derive(Clone, Copy)]
 pub enum Best {
+    /// The index of the row.
     Place,
+    /// The bytes of the row.
     Bytes,
 }
 
-/// The calls by name.
+/// The name of each call, and the call.
 pub const CALLS: [(&str, Call); 43] = [
     ("count_ones", Call::Bits(BitQuestion::Count(Count::Ones))),
     ("count_zeros", Call::Bits(BitQuestion::Count(Count::Zeros))),

@@ -1,10 +1,11 @@
-//! Extremes of arrays of any kind.
+//! Calls for the extremes of an array of any kind. A result is `none` if no row is present, or
+//! `refused: not supported` if the kind of the array has no extremes. Otherwise:
 //!
-//! - `dyn_array_min_ignore_nan A`, and so of `max_ignore_nan`, `min_propagate_nan` and
-//!   `max_propagate_nan`: the name of the array's kind and the row, `none` if no row is present, or
-//!   `refused: not supported`
-//! - `dyn_array_min_max_propagate_nan A`: the kind and the least and the greatest row, `none`, or
-//!   `refused: not supported`
+//! - `dyn_array_min_ignore_nan A`, `dyn_array_max_ignore_nan A`, `dyn_array_min_propagate_nan A`,
+//!   `dyn_array_max_propagate_nan A`: the name of the array's kind, and the least or the greatest
+//!   present row
+//! - `dyn_array_min_max_propagate_nan A`: the name of the kind and the least present row, then the
+//!   name again and the greatest present row
 
 use crate::calls::Extremes;
 use crate::found_text::push_none;
@@ -19,7 +20,8 @@ use recorded_text::bytes_text::push_bytes;
 use recorded_text::fault::Fault;
 use std::fmt::Display;
 
-/// Appends the extremes of an array. The call for both has only one name.
+/// Appends the extremes of `array` that `asked` selects to `text`. The error is `Word` for
+/// `MinMaxIgnore`, since there is no such function for arrays of any kind, or else `Memory`.
 pub fn push_answer(text: &mut String, asked: Extremes, array: &AnyArray) -> Result<(), Fault> {
     match asked {
         Extremes::MinIgnore => push_extreme(text, dyn_array_min_ignore_nan(array)),
@@ -31,7 +33,8 @@ pub fn push_answer(text: &mut String, asked: Extremes, array: &AnyArray) -> Resu
     }
 }
 
-// Appends an extreme, or the error.
+// Appends the row in `answer` and its kind to `text`, or `none` if no row is present. If `answer`
+// is an error, appends `refused:` and the error, or returns `Memory` if an allocation failed.
 fn push_extreme(
     text: &mut String,
     answer: Result<Option<AnyScalar<'_>>, ComputeError>,
@@ -43,7 +46,8 @@ fn push_extreme(
     }
 }
 
-// Appends both extremes, or the error.
+// Appends the two rows in `answer`, each after its kind, to `text`, or `none` if no row is present.
+// If `answer` is an error, does as `push_extreme`.
 fn push_both(
     text: &mut String,
     answer: Result<Option<(AnyScalar<'_>, AnyScalar<'_>)>, ComputeError>,
@@ -55,7 +59,8 @@ fn push_both(
     }
 }
 
-// Appends the error of a call, unless it is a failed allocation.
+// Appends `refused:` and the error `refused` to `text`. If the error is a failed allocation,
+// appends nothing and returns `Memory`.
 fn push_refusal(text: &mut String, refused: ComputeError) -> Result<(), Fault> {
     match refused {
         ComputeError::Memory(_) => Err(Fault::Memory),
@@ -63,7 +68,7 @@ fn push_refusal(text: &mut String, refused: ComputeError) -> Result<(), Fault> {
     }
 }
 
-// Appends two scalars.
+// Appends `least` and `greatest`, each after the name of its kind, to `text`, separated by a space.
 fn push_two(text: &mut String, least: AnyScalar<'_>, greatest: AnyScalar<'_>) -> Result<(), Fault> {
     push_scalar(text, least)?;
     text.push(' ')?;
@@ -93,12 +98,12 @@ fn push_scalar(text: &mut String, scalar: AnyScalar<'_>) -> Result<(), Fault> {
     }
 }
 
-// Appends a name and a number or a truth value.
+// Appends `name` and a number or a truth value to `text`.
 fn push_plain<T: Copy + Display>(text: &mut String, name: &str, scalar: T) -> Result<(), Fault> {
     write!(text, "{name}{scalar}").map_err(Fault::from)
 }
 
-// Appends a name and a byte string.
+// Appends `name` and the digits of a byte string to `text`, as `push_bytes` does.
 fn push_string(text: &mut String, name: &str, bytes: &[u8]) -> Result<(), Fault> {
     text.push_str(name)?;
     push_bytes(text, bytes)

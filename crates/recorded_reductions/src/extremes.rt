@@ -1,14 +1,15 @@
-//! Extremes of arrays of one kind, and of slices of numbers.
+//! Calls for the extremes of arrays of one kind, and of slices of numbers. A call with `min` or
+//! `max` in its name returns the least or the greatest, and one with `min_max` both. The result is
+//! `none` if no row is present, or if a slice is empty. No row is a NaN, so each call with
+//! `propagate_nan` in its name returns the same as the one with `ignore_nan`.
 //!
-//! - `min_ignore_nan_kernel A`, `max_ignore_nan_kernel A`: the least or the greatest present row of
-//!   numbers or truth values, or `none`
-//! - `min_max_ignore_nan_kernel A`: both
-//! - `min_propagate_nan_kernel A`, and so of `max` and `min_max`: the results of the calls with
-//!   `ignore`
-//! - `slice_min_ignore_nan_kernel A` and so on: the extremes of the stored numbers of A, including
-//!   those of null rows
-//! - `bytes_min_ignore_nan_kernel A`, `text_min_ignore_nan_kernel A` and so on: the extremes of
-//!   byte strings, or of texts as bytes
+//! - `min_ignore_nan_kernel A`, and the same with `max` or `min_max`: of the present rows of an
+//!   array of numbers or truth values
+//! - `slice_min_ignore_nan_kernel A`, and so on: of the stored numbers of A, including those of
+//!   null rows
+//! - `bytes_min_ignore_nan_kernel A`, and so on: of the present rows of an array of byte strings
+//! - `text_min_ignore_nan_kernel A`, and so on: of the present rows of an array of texts, which are
+//!   compared as bytes
 
 ghost use Rattle.polars_arrays_nested.specs.GoodParts.{IsGood};
 
@@ -21,7 +22,9 @@ use polars_compare_extremes::kernel::MinMaxKernel;
 use recorded_text::fault::Fault;
 use std::fmt::Display;
 
-/// Appends the extremes of a part of an array.
+/// Appends the extremes of `array` that `asked` selects to `text`. `subject` says which rows or
+/// numbers are compared. The error is `Case` if `array` is not of a kind that `subject` allows, or
+/// else `Memory`.
 pub fn push_answer(
     text: &mut String,
     subject: Subject,
@@ -38,19 +41,22 @@ pub fn push_answer(
     }
 }
 
-// Appends the extremes of the rows of an array of numbers or truth values.
+// Appends the extremes of the present rows of `array`, which must hold numbers or truth values. The
+// error is `Case` if it does not, or else `Memory`.
 fn push_of_rows(text: &mut String, asked: Extremes, array: &AnyArray) -> Result<(), Fault> {
     of_kind!(array, rows => push_extremes(text, asked, rows),
         Boolean Int8 Int16 Int32 Int64 Int128 UInt8 UInt16 UInt32 UInt64 UInt128)
 }
 
-// Appends the extremes of the numbers that an array stores.
+// Appends the extremes of all stored numbers of `array`, also those of null rows. The error is
+// `Case` if it does not hold numbers, or else `Memory`.
 fn push_of_stored(text: &mut String, asked: Extremes, array: &AnyArray) -> Result<(), Fault> {
     of_kind!(array, rows => push_extremes(text, asked, &rows.values()),
         Int8 Int16 Int32 Int64 Int128 UInt8 UInt16 UInt32 UInt64 UInt128)
 }
 
-// Appends the extremes of numbers or truth values.
+// Appends the extremes of `rows` that `asked` selects to `text`. The rows are numbers or truth
+// values.
 fn push_extremes<K: MinMaxKernel<Scalar: Display>>(
     text: &mut String,
     asked: Extremes,
@@ -66,14 +72,15 @@ fn push_extremes<K: MinMaxKernel<Scalar: Display>>(
     }
 }
 
-// Appends the extremes of an array of byte strings.
+// Appends the extremes of the present rows of `array`, which must hold byte strings of any length.
+// The error is `Case` if it does not, or else `Memory`.
 fn push_of_bytes(text: &mut String, asked: Extremes, array: &AnyArray) -> Result<(), Fault>
     requires { IsGood array.now }
 {
     of_kind!(array, rows => push_byte_extremes(text, asked, rows), Binary LargeBinary BinaryView)
 }
 
-// Appends the extremes of byte strings.
+// Appends the extremes of `rows` that `asked` selects to `text`. The rows are byte strings.
 fn push_byte_extremes<K: BytesMinMaxKernel>(
     text: &mut String,
     asked: Extremes,
@@ -89,14 +96,15 @@ fn push_byte_extremes<K: BytesMinMaxKernel>(
     }
 }
 
-// Appends the extremes of an array of texts.
+// Appends the extremes of the present rows of `array`, which must hold texts. The error is `Case`
+// if it does not, or else `Memory`.
 fn push_of_texts(text: &mut String, asked: Extremes, array: &AnyArray) -> Result<(), Fault>
     requires { IsGood array.now }
 {
     of_kind!(array, rows => push_text_extremes(text, asked, rows), Utf8 LargeUtf8 Utf8View)
 }
 
-// Appends the extremes of texts.
+// Appends the extremes of `rows` that `asked` selects to `text`. The rows are texts.
 fn push_text_extremes<K: TextMinMaxKernel>(
     text: &mut String,
     asked: Extremes,

@@ -1,16 +1,17 @@
-//! Results of searches as text: a number, a truth value, or `x` and the hexadecimal digits of the
-//! bytes of a string or a text; two of these, separated by a space; or `none`.
+//! Functions that append what a call found to a text: one value or two values, or `none`. A number
+//! or a truth value is written as it is; a byte string or a text as `x` and two hexadecimal digits
+//! for each byte. Two values are separated by a space. The error of each function is `Memory`.
 
 use recorded_text::bytes_text::push_bytes;
 use recorded_text::fault::Fault;
 use std::fmt::Display;
 
-/// Appends `none`.
+/// Appends `none` to `text`.
 pub fn push_none(text: &mut String) -> Result<(), Fault> {
     text.push_str("none").map_err(Fault::from)
 }
 
-/// Appends a number or a truth value, or `none`.
+/// Appends the number or truth value `found` to `text`, or `none`.
 pub fn push_found<T: Copy + Display>(text: &mut String, found: Option<T>) -> Result<(), Fault> {
     match found {
         Some(found) => write!(text, "{found}").map_err(Fault::from),
@@ -18,7 +19,7 @@ pub fn push_found<T: Copy + Display>(text: &mut String, found: Option<T>) -> Res
     }
 }
 
-/// Appends two numbers or truth values, or `none`.
+/// Appends the two numbers or truth values in `found` to `text`, or `none`.
 pub fn push_pair<T: Copy + Display>(text: &mut String, found: Option<(T, T)>) -> Result<(), Fault> {
     match found {
         Some((least, greatest)) => write!(text, "{least} {greatest}").map_err(Fault::from),
@@ -26,7 +27,7 @@ pub fn push_pair<T: Copy + Display>(text: &mut String, found: Option<(T, T)>) ->
     }
 }
 
-/// Appends a byte string, or `none`.
+/// Appends the byte string `found` to `text` in hexadecimal digits, or `none`.
 pub fn push_string(text: &mut String, found: Option<&[u8]>) -> Result<(), Fault> {
     match found {
         Some(bytes) => push_bytes(text, bytes),
@@ -34,7 +35,7 @@ pub fn push_string(text: &mut String, found: Option<&[u8]>) -> Result<(), Fault>
     }
 }
 
-/// Appends two byte strings, or `none`.
+/// Appends the two byte strings in `found` to `text` in hexadecimal digits, or `none`.
 pub fn push_strings(text: &mut String, found: Option<(&[u8], &[u8])>) -> Result<(), Fault> {
     match found {
         Some((least, greatest)) => push_two(text, least, greatest),
@@ -42,7 +43,7 @@ pub fn push_strings(text: &mut String, found: Option<(&[u8], &[u8])>) -> Result<
     }
 }
 
-/// Appends the bytes of a text, or `none`.
+/// Appends the bytes of the text `found` to `text` in hexadecimal digits, or `none`.
 pub fn push_text(text: &mut String, found: Option<&str>) -> Result<(), Fault> {
     match found {
         Some(found) => push_bytes(text, found.as_bytes()),
@@ -50,7 +51,7 @@ pub fn push_text(text: &mut String, found: Option<&str>) -> Result<(), Fault> {
     }
 }
 
-/// Appends the bytes of two texts, or `none`.
+/// Appends the bytes of the two texts in `found` to `text` in hexadecimal digits, or `none`.
 pub fn push_texts(text: &mut String, found: Option<(&str, &str)>) -> Result<(), Fault> {
     match found {
         Some((least, greatest)) => push_two(text, least.as_bytes(), greatest.as_bytes()),
@@ -58,7 +59,7 @@ pub fn push_texts(text: &mut String, found: Option<(&str, &str)>) -> Result<(), 
     }
 }
 
-// Appends two byte strings, separated by a space.
+// Appends `least` and `greatest` to `text` in hexadecimal digits, separated by a space.
 fn push_two(text: &mut String, least: &[u8], greatest: &[u8]) -> Result<(), Fault> {
     push_bytes(text, least)?;
     text.push(' ')?;

@@ -1,7 +1,7 @@
-//! Calls that exist for several kinds of arrays.
+//! A macro for functions that exist for several kinds of arrays.
 
-/// Calls a function with the array inside an array of any kind. For kinds that are not named it is
-/// an error.
+/// Evaluates `$each`, in which `$array` is the array that `$any`, an `AnyArray`, holds. The error
+/// is `Case` if `$any` is of none of the kinds `$kind`.
 macro_rules! of_kind {
     ($any:expr, $array:ident => $each:expr, $($kind:ident)+) => {
         match $any {

@@ -1,8 +1,12 @@
-//! Recorded cases of counts of bits, bitwise reductions, and extremes of arrays, of slices and of
-//! arrays of any kind.
+//! Recorded cases of counts of bits, of bitwise reductions, and of extremes: the least and the
+//! greatest row of an array, or number of a slice.
 //!
-//! An array is an operand by its name, and is borrowed. Sums are in `recorded_arithmetic`. Each
-//! function appends its result to one text, which the function `answer` begins.
+//! A call and its operands are words of a line. An operand A is the name of an array, which is
+//! borrowed. Sums are in `recorded_arithmetic`. The function `answer` creates one text, and each
+//! module appends its result to it.
+//!
+//! The error is `Word` if a word is missing or wrong, `Case` if there is no array of a name or if
+//! the array is of the wrong kind, and `Memory` if an allocation failed.
 #![tactic(auto)]
 
 ghost use Rattle.recorded_text.specs.Cases.{HasGoodArrays};
@@ -23,7 +27,8 @@ use recorded_text::store::Store;
 use recorded_text::words::Words;
 use std::alloc::Global;
 
-/// Returns the result of a call of these subjects, or `None` for any other call.
+/// Reads the operands of `call` from `words`, and returns the result as text. Returns `None` if
+/// `call` is not the name of a call of this crate.
 pub fn answer(
     alloc: Global,
     call: &str,
@@ -38,7 +43,7 @@ pub fn answer(
     }
 }
 
-// Returns the result of a call.
+// Reads the operands of `call` from `words`, and returns the result as text.
 fn write_answer(
     alloc: Global,
     call: Call,
@@ -52,7 +57,7 @@ fn write_answer(
     Ok(text)
 }
 
-// Appends the result of a call.
+// Reads the operands of `call` from `words`, and appends the result to `text`.
 fn push_answer(
     alloc: Global,
     text: &mut String,

@@ -1,8 +1,9 @@
-//! Places of the best byte string of an array. A PREFERENCE is `less` or `greater`.
+//! Calls for the best byte string of an array. PREFERENCE is `less` if the least byte string is the
+//! best, or `greater` if the greatest is. The result is `none` if no row is present.
 //!
-//! - `best_place PREFERENCE A`: the index of the first best present row, or `none` if no row is
-//!   present
-//! - `best_string PREFERENCE A`: its bytes
+//! - `best_place PREFERENCE A`: the index of the best present row, or of the first if several are
+//!   equally good
+//! - `best_string PREFERENCE A`: the bytes of that row
 
 ghost use Rattle.polars_arrays_nested.specs.GoodParts.{IsGood};
 ghost use Rattle.recorded_text.specs.Cases.{HasGoodArrays};
@@ -19,7 +20,9 @@ use recorded_text::fault::Fault;
 use recorded_text::store::Store;
 use recorded_text::words::Words;
 
-/// Appends the best of an array's byte strings, by the preference that the next word names.
+/// Reads a preference and the name of an array from `words`, and appends the place or the bytes of
+/// the best row to `text`, as `best` says. The error is `Word` if there is no such preference, or
+/// else as in `push_preferred`.
 pub fn push_answer(
     text: &mut String,
     best: Best,
@@ -35,7 +38,8 @@ pub fn push_answer(
     }
 }
 
-// Appends the best of an array's byte strings.
+// Appends the place or the bytes of the best row of `array` by `preference`, as `best` says. The
+// error is `Case` if `array` does not hold byte strings or texts, or else `Memory`.
 fn push_preferred<P: Preference>(
     text: &mut String,
     best: Best,
@@ -48,7 +52,8 @@ fn push_preferred<P: Preference>(
         Binary LargeBinary Utf8 LargeUtf8 BinaryView Utf8View FixedSizeBinary)
 }
 
-// Appends the best of byte strings.
+// Appends the place or the bytes of the best present row of `rows` by `preference`, as `best` says,
+// or `none` if no row is present.
 fn push_best<P: Preference, R: ByteRows>(
     text: &mut String,
     best: Best,

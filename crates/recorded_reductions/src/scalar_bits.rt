@@ -1,7 +1,8 @@
-//! Operators on the bits of two scalars.
+//! Calls that join two scalars of the same type bit by bit.
 //!
-//! - `bit_and TYPE NUMBER NUMBER`, and so of `or` and `xor`: a number
-//! - `bit_and bool TRUTH TRUTH`, and so of `or` and `xor`: a truth value
+//! - `bit_and TYPE NUMBER NUMBER`, and `bit_or` and `bit_xor` with the same operands: a number.
+//!   TYPE is `i8`, `i16`, `i32`, `i64`, `u8`, `u16`, `u32` or `u64`
+//! - `bit_and bool TRUTH TRUTH`, and `bit_or` and `bit_xor` with the same operands: a truth value
 
 use crate::calls::Join;
 use polars_arrays_flat::boolean::BooleanArray;
@@ -12,7 +13,9 @@ use recorded_text::words::Words;
 use std::fmt::Display;
 use std::str::FromStr;
 
-/// Appends the join of two scalars of the type that the next word names.
+/// Reads a type and two scalars of this type from `words`, joins them by the operator `join`, and
+/// appends the result to `text`. The error is `Word` if there is no such type or a scalar cannot be
+/// read, or else `Memory`.
 pub fn push_answer(text: &mut String, join: Join, words: &mut Words) -> Result<(), Fault> {
     match words.read()? {
         "bool" => push_joined::<BooleanArray>(text, join, words),
@@ -28,7 +31,8 @@ pub fn push_answer(text: &mut String, join: Join, words: &mut Words) -> Result<(
     }
 }
 
-// Appends the join of the two scalars of the next words.
+// Reads two scalars from `words`, joins them by the operator `join`, and appends the result to
+// `text`. The error is `Word` if a scalar cannot be read, or else `Memory`.
 fn push_joined<K: BitwiseKernel<Scalar: Copy + Display + FromStr<Err: Drop>>>(
     text: &mut String,
     join: Join,
@@ -40,7 +44,7 @@ fn push_joined<K: BitwiseKernel<Scalar: Copy + Display + FromStr<Err: Drop>>>(
     write!(text, "{joined}").map_err(Fault::from)
 }
 
-// Returns the join of two scalars.
+// Returns `left` and `right` joined bit by bit by the operator `join`.
 fn join_scalars<K: BitwiseKernel>(join: Join, left: K::Scalar, right: K::Scalar) -> K::Scalar {
     match join {
         Join::And => K::bit_and(left, right),

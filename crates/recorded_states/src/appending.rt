@@ -1,11 +1,12 @@
-//! Clones of arrays, appended to one new state in one call.
+//! Calls that append clones of several arrays to a new state, with one call of `append_all`.
 //!
-//! - `append_all_numbers TYPE MIN MAX A..`: the state of the numbers from MIN to MAX, in the form
-//!   of `seen`
+//! - `append_all_numbers TYPE MIN MAX A..`: the state of the numbers from MIN to MAX, as text in
+//!   the form that `seen` describes
 //! - `append_all_truths A..`: the state of truth values
-//! - `append_all_keys V A..`: the state of the keys of the entries V
-//! - `stored_numbers TYPE MIN MAX A..`, and so of `truths` and `keys`: the stored values of the
-//!   array that the state is finalised to, including that of its null
+//! - `append_all_keys V A..`: the state of the keys of a dictionary with the entries V
+//! - `stored_numbers TYPE MIN MAX A..`, `stored_truths A..` and `stored_keys V A..`: the stored
+//!   values of the array to which such a state is finalised, including the stored value of a null
+//!   row
 
 ghost use Rattle.std.specs.Prelude.{All, IsTrue};
 ghost use Rattle.polars_compute_slots.specs.State.{are_within, range_of};
@@ -23,8 +24,10 @@ use recorded_text::store::Store;
 use recorded_text::words::Words;
 use std::alloc::Global;
 
-/// Returns the text of a new state after `append_all`. The words give the range of the state, and
-/// then name the arrays to append. The error is `Case`, if the state does not accept one.
+/// Reads a range from `words`, creates a state of the range, and appends all arrays that the
+/// remaining words name. Returns the text of the state, in the form that `seen` describes. The
+/// error is `Case` if the state does not accept one of the arrays, or else that of `read_new`,
+/// `rows_named` or `write_seen`.
 pub fn write_all<N: NewStates>(
     alloc: Global,
     store: &Store,
@@ -35,8 +38,9 @@ pub fn write_all<N: NewStates>(
     write_seen(alloc, state_of_all::<N>(alloc, store, words))
 }
 
-/// Reads a state from `words`, finalises it, and returns the text of the stored values of that
-/// array.
+/// Reads a range from `words`, creates a state of the range, appends all arrays that the remaining
+/// words name, and finalises the state. Returns the stored values of the resulting array as text.
+/// The errors are those of `write_all`, and `Case` if the state cannot be finalised.
 pub fn write_stored<N: NewStates>(
     alloc: Global,
     store: &Store,
@@ -48,7 +52,8 @@ pub fn write_stored<N: NewStates>(
     write_end::<N::State>(alloc, state.finalize_unique(alloc))
 }
 
-// Returns the stored values of the array that a state was finalised to.
+// Returns the stored values of `end`, the array to which a state was finalised, as text. If `end`
+// is an error, returns `Memory` for a failed allocation, or else `Case`.
 fn write_end<S: RecordedState>(
     alloc: Global,
     end: Result<S::Array, ComputeError>,
@@ -56,7 +61,7 @@ fn write_end<S: RecordedState>(
     write_rows::<S>(alloc, &end?)
 }
 
-// Returns the stored value of each row.
+// Returns the stored values of all rows of an array as text, separated by spaces.
 fn write_rows<S: RecordedState>(alloc: Global, rows: &S::Array) -> Result<String, Fault> {
     let mut text = String::new(alloc);
     for i in 0..S::count_rows(rows) {
@@ -68,8 +73,8 @@ fn write_rows<S: RecordedState>(alloc: Global, rows: &S::Array) -> Result<String
     Ok(text)
 }
 
-// Creates a state of the range given by words, and appends clones of the arrays that further words
-// name.
+// Reads a range from `words`, creates a state of the range, and appends clones of the arrays that
+// the remaining words name.
 fn state_of_all<N: NewStates>(
     alloc: Global,
     store: &Store,
@@ -82,8 +87,9 @@ fn state_of_all<N: NewStates>(
     if_done(state, appended)
 }
 
-// Appends clones of the arrays that words name. The error is `Case`, if the state does not accept
-// one.
+// Clones the arrays of `store` that `names` lists, and appends the clones to `state`. The error is
+// `Case` if the state does not accept one of them; then none is appended. Other errors are those of
+// `copy_all`.
 fn append_copies<S: RecordedState>(
     alloc: Global,
     state: &mut S,
@@ -100,7 +106,8 @@ fn append_copies<S: RecordedState>(
     Ok(())
 }
 
-// Clones the arrays that words name.
+// Clones the arrays of `store` that `names` lists. The error is `Case` if there is no array of a
+// name, or if it is not of the kind that `S` accepts, or else `Memory`.
 fn copy_all<S: RecordedState>(
     alloc: Global,
     store: &Store,
@@ -115,7 +122,7 @@ fn copy_all<S: RecordedState>(
     Ok(arrays)
 }
 
-// Returns whether a state accepts an array.
+// Returns whether `array` can be appended to `state`.
 fn is_accepted<S: RangedUniqueKernel>(state: &S, array: &S::Array) -> bool
     ensures taken { IsTrue result → IsTrue (S.is_taken array.now) }
     ensures within { IsTrue result
@@ -124,7 +131,7 @@ fn is_accepted<S: RangedUniqueKernel>(state: &S, array: &S::Array) -> bool
     state.accepts(array)
 }
 
-// Returns whether a state accepts each array.
+// Returns whether each of `arrays` can be appended to `state`.
 fn all_accepted<S: RangedUniqueKernel>(state: &S, arrays: &[S::Array]) -> bool
     ensures taken { IsTrue result → All (λ array. IsTrue (S.is_taken array)) arrays.now }
     ensures within { IsTrue result

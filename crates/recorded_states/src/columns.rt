@@ -1,4 +1,5 @@
-//! Columns in chunks, and new states to which they are appended.
+//! Functions that append the arrays of a column to a new state. A column is a list of arrays, which
+//! a line names.
 
 ghost use Rattle.recorded_text.specs.Cases.{HasGoodArrays};
 
@@ -10,7 +11,7 @@ use recorded_text::store::Store;
 use recorded_text::words::Words;
 use std::alloc::Global;
 
-/// Appends an array. The error is `Case`, if the state does not accept it.
+/// Appends `array` to `state`. The error is `Case` if the state does not accept the array.
 pub fn append<S: RangedUniqueKernel>(state: &mut S, array: &S::Array) -> Result<(), Fault> {
     if !state.accepts(array) {
         return Err(Fault::Case);
@@ -19,7 +20,7 @@ pub fn append<S: RangedUniqueKernel>(state: &mut S, array: &S::Array) -> Result<
     Ok(())
 }
 
-/// Merges a state into another one. The error is `Case`, if their ranges differ.
+/// Merges `other` into `state`. The error is `Case` if their ranges differ.
 pub fn join<S: RangedUniqueKernel>(state: &mut S, other: &S) -> Result<(), Fault> {
     if !state.same_range(other) {
         return Err(Fault::Case);
@@ -28,14 +29,16 @@ pub fn join<S: RangedUniqueKernel>(state: &mut S, other: &S) -> Result<(), Fault
     Ok(())
 }
 
-/// Returns the array that a word names, of the kind of the state.
+/// Returns the array of `store` with the name `name`. The error is `Case` if there is none, or if
+/// it is not of the kind that `S` accepts.
 pub fn rows_named<'a, S: RecordedState>(store: &'a Store, name: &str) -> Result<&'a S::Array, Fault>
     requires { HasGoodArrays store.now }
 {
     S::rows_in(store.array(name)?)
 }
 
-/// Appends each array that words name.
+/// Appends the arrays of `store` that `names` lists to `state`, in this order. The error is `Case`
+/// if there is no array of a name, if it is of the wrong kind, or if the state does not accept it.
 pub fn append_named<S: RecordedState>(
     state: &mut S,
     store: &Store,
@@ -49,7 +52,9 @@ pub fn append_named<S: RecordedState>(
     Ok(())
 }
 
-/// Creates a state, and appends each array that words name.
+/// Creates a state of `range`, and appends the arrays of `store` that `names` lists. The error is
+/// `Case` if no state of the range can be created, or as in `append_named`. Otherwise the error is
+/// `Memory`.
 pub fn gathered<N: NewStates>(
     alloc: Global,
     range: &N,
@@ -63,7 +68,7 @@ pub fn gathered<N: NewStates>(
     if_done(state, appended)
 }
 
-/// Returns a state, unless there was an error in what was done to it.
+/// Returns `state` if `done` is `Ok`, or else the error in `done`.
 pub fn if_done<S: RecordedState>(state: S, done: Result<(), Fault>) -> Result<S, Fault> {
     match done {
         Ok(()) => Ok(state),
@@ -71,8 +76,8 @@ pub fn if_done<S: RecordedState>(state: S, done: Result<(), Fault>) -> Result<S,
     }
 }
 
-/// Creates the state of a column: a state of the range given by words, to which each array is
-/// appended that further words name.
+/// Creates the state of a column. The first of `words` give the range of the state, and the others
+/// name the arrays of `store` to append. The errors are those of `N::read` and `gathered`.
 pub fn read_state<N: NewStates>(
     alloc: Global,
     store: &Store,

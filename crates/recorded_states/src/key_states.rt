@@ -1,12 +1,14 @@
-//! Calls on states of the keys of a dictionary.
+//! Calls on states of the keys of a dictionary. Such a state has the entries of the dictionary, and
+//! an inner state of numbers for the keys (`key_state`).
 //!
-//! - `key_state V MIN MAX A..`: the state over the entries V, in the form of `seen`, after its
-//!   state of keys was replaced by one of the numbers from MIN to MAX, and the arrays of type `u32`
-//!   were appended
-//! - `key_state_accepts V MIN MAX A`: whether that state accepts the dictionary array A
-//! - `ended_keys V A..`: the type of the array to which a state over V with the arrays appended is
-//!   finalised; after ` | `, another state over V, in the form of `seen`, to which that array was
-//!   appended
+//! - `key_state V MIN MAX A..`: a state with the entries V, in the form that `seen` describes. Its
+//!   inner state was replaced by a state of the numbers from MIN to MAX, to which the arrays A..,
+//!   of type `u32`, were appended
+//! - `key_state_accepts V MIN MAX A`: whether a state with the entries V accepts the dictionary
+//!   array A, after its inner state was replaced by a new state of the numbers from MIN to MAX
+//! - `ended_keys V A..`: the type of the array to which a state with the entries V is finalised
+//!   after the arrays A.. were appended. After ` | ` follows another state with the entries V, in
+//!   the form that `seen` describes, to which that array was appended
 
 ghost use Rattle.polars_arrays_nested.specs.GoodParts.{IsGood};
 ghost use Rattle.polars_arrays_nested.specs.declared.any_array.AnyArray.{Dictionary};
@@ -33,8 +35,8 @@ use recorded_text::type_text::write_type;
 use recorded_text::words::Words;
 use std::alloc::Global;
 
-// Returns the `Question` that a call asks. Returns `None` for a call of another subject, and for
-// the calls that `answer` handles itself.
+// Returns the `Question` for the call with the name `call`. Returns `None` for the calls that
+// `answer` handles itself, and for calls of other modules.
 fn question_of(call: &str) -> Option<Question> {
     match call {
         "keys_fit" => Some(Question::Fit),
@@ -47,7 +49,8 @@ fn question_of(call: &str) -> Option<Question> {
     }
 }
 
-/// Returns the result of a call of this subject, or `None` for any other call.
+/// Reads the operands of `call` from `words`, and returns the result as text. Returns `None` if
+/// `call` is not the name of a call on states of keys.
 pub fn answer(
     alloc: Global,
     call: &str,
@@ -71,7 +74,8 @@ pub fn answer(
     answer.map(Some)
 }
 
-// Returns the text of a state whose state of keys was replaced.
+// Reads the operands of `key_state` from `words`: the name of the entries, the first and the last
+// number, and the names of the arrays. Returns the text of the state.
 fn write_state(alloc: Global, store: &Store, words: &mut Words) -> Result<String, Fault>
     requires { HasGoodArrays store.now }
 {
@@ -83,7 +87,9 @@ fn write_state(alloc: Global, store: &Store, words: &mut Words) -> Result<String
     )
 }
 
-// Creates a state over entries, replaces its state of keys, and appends arrays.
+// Creates a state of the keys of `entries`, replaces its inner state by a new one of `range`, and
+// appends the arrays that `names` lists to the inner state. The error is `Case` if one of the two
+// states cannot be created, or as in `append_named`, or else `Memory`.
 fn state_put(
     alloc: Global,
     entries: &AnyArray,
@@ -99,7 +105,9 @@ fn state_put(
     if_done(state, put)
 }
 
-// Returns whether a state whose state of keys was replaced accepts a dictionary array.
+// Reads the operands of `key_state_accepts` from `words`: the name of the entries, the first and
+// the last number, and the name of a dictionary array. Returns `true` if the state accepts the
+// array, or else `false`.
 fn write_accepted(alloc: Global, store: &Store, words: &mut Words) -> Result<String, Fault>
     requires { HasGoodArrays store.now }
 {
@@ -109,7 +117,8 @@ fn write_accepted(alloc: Global, store: &Store, words: &mut Words) -> Result<Str
     write_truth(alloc, accepts_put(alloc, entries, &range, store, array))
 }
 
-// Returns whether a state over entries whose state of keys was replaced accepts a dictionary array.
+// Creates a state of the keys of `entries`, replaces its inner state by a new one of `range`, and
+// returns whether the state then accepts `array`. The errors are those of `state_put`.
 fn accepts_put(
     alloc: Global,
     entries: &AnyArray,
@@ -126,7 +135,8 @@ fn accepts_put(
     Ok(accepts)
 }
 
-// Replaces the state of keys, and appends the arrays that words name to it.
+// Replaces the inner state of `state` by `keys`, and appends the arrays of `store` that `names`
+// lists to it. If `keys` is an error, returns it. Other errors are those of `append_named`.
 fn put_keys(
     state: &mut DictionaryRangedUniqueState,
     keys: Result<PrimitiveRangedUniqueState<u32>, Fault>,
@@ -140,7 +150,10 @@ fn put_keys(
     append_named(key_state, store, names)
 }
 
-// Returns the entries that two merged states name.
+// Reads two columns from `words`, merges the state of the second into that of the first, and
+// finalises it. Returns the rows of the resulting dictionary array as text: the entries to which
+// its keys refer. The errors are those of `read_joined`, and `Case` if the state cannot be
+// finalised.
 fn write_joined(alloc: Global, store: &Store, words: &mut Words) -> Result<String, Fault>
     requires { HasGoodArrays store.now }
 {
@@ -148,15 +161,16 @@ fn write_joined(alloc: Global, store: &Store, words: &mut Words) -> Result<Strin
     write_entries(alloc, state.finalize_unique(alloc)?)
 }
 
-// Returns the entries that keys name.
+// Returns the rows of a dictionary array as text, separated by spaces, and drops the array.
 fn write_entries(alloc: Global, array: DictionaryArray) -> Result<String, Fault>
     requires { IsGood (Dictionary array) }
 {
     write_made(alloc, AnyArray::Dictionary(array))
 }
 
-// Returns the type of the array to which a state is finalised, and another state to which it was
-// appended.
+// Reads the operands of `ended_keys` from `words`: the name of the entries, and the names of the
+// arrays. Returns the type of the array to which the state is finalised, a bar, and the text of
+// another state to which that array was appended.
 fn write_ended(alloc: Global, store: &Store, words: &mut Words) -> Result<String, Fault>
     requires { HasGoodArrays store.now }
 {
@@ -166,7 +180,9 @@ fn write_ended(alloc: Global, store: &Store, words: &mut Words) -> Result<String
     add_seen(alloc, text, state_of(alloc, &range, &array))
 }
 
-// Returns the array to which a state with arrays appended is finalised.
+// Creates a state of `range`, appends the arrays of `store` that `names` lists, and returns the
+// array to which the state is finalised. The error is `Case` if the state cannot be finalised, or
+// as in `gathered`.
 fn end(
     alloc: Global,
     range: &Entries,
@@ -179,7 +195,8 @@ fn end(
     Ok(array)
 }
 
-// Creates a state, and appends one array.
+// Creates a state of `range`, and appends `array` to it. The error is `Case` if there is no such
+// state, or if it does not accept the array, or else `Memory`.
 fn state_of(
     alloc: Global,
     range: &Entries,
@@ -190,7 +207,8 @@ fn state_of(
     if_done(state, appended)
 }
 
-// Returns the text of a type, and drops it.
+// Returns the text of the type `made`, and drops the type. If `made` is an error, returns `Memory`
+// for a failed allocation, or else `Case`.
 fn write_made_type(
     alloc: Global,
     made: Result<ArrowDataType, ComputeError>,

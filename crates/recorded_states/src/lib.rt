@@ -1,10 +1,14 @@
 //! Recorded cases of states of distinct values: of numbers in a range, of truth values, and of the
 //! keys of dictionaries.
 //!
-//! An array is an operand by its name. A TYPE is one of `i8`, `i16`, `i32`, `i64`, `u8`, `u16`,
-//! `u32` and `u64`, and MIN and MAX are the first and the last number of a range. `seen` describes
-//! the text of a state. The condition of a call is tested first; if it does not hold, the line has
-//! no result.
+//! A call and its operands are words of a line. An operand such as A, B, V or W is the name of an
+//! array. A TYPE is one of `i8`, `i16`, `i32`, `i64`, `u8`, `u16`, `u32` and `u64`, and MIN and MAX
+//! are the first and the last number of a range. `seen` describes the text of a state.
+//!
+//! The preconditions of a call are tested first. If one does not hold, the line has no result, and
+//! the error is `Case`. It is also `Case` if there is no array of a name, or if the array is of the
+//! wrong kind. The error is `Word` if a word is missing or wrong, and `Memory` if an allocation
+//! failed.
 #![tactic(auto)]
 
 ghost use Rattle.recorded_text.specs.Cases.{HasGoodArrays};
@@ -29,7 +33,8 @@ use recorded_text::store::Store;
 use recorded_text::words::Words;
 use std::alloc::Global;
 
-// Returns the first result that there is.
+// Evaluates the given results in order, and returns from the surrounding function with the first
+// that is an error or a `Some`. If all are `None`, continues after the macro.
 macro_rules! first_answer {
     ($($answer:expr),+ $(,)?) => {
         $(if let Some(answer) = $answer? {
@@ -38,7 +43,8 @@ macro_rules! first_answer {
     };
 }
 
-/// Returns the result of a call of these subjects, or `None` for any other call.
+/// Reads the operands of `call` from `words`, and returns the result as text. Returns `None` if
+/// `call` is not the name of a call of this crate.
 pub fn answer(
     alloc: Global,
     call: &str,

@@ -1,4 +1,5 @@
-//! Sources of new states.
+//! Sources of new states. A source says which range of values a state has, and creates states of
+//! it.
 
 ghost use Rattle.std.specs.Prelude.{IfOk};
 ghost use Rattle.polars_arrays_nested.specs.GoodParts.{IsGood};
@@ -16,23 +17,25 @@ use recorded_text::words::Words;
 use std::alloc::Global;
 use std::marker::Model;
 
-/// A source of new states of one range.
+/// A source of new states, which all have the same range.
 pub trait NewStates: Sized + Drop {
+    /// The type of the states.
     type State: RecordedState;
 
-    /// Reads the range given by words.
+    /// Reads a range from the next words. `store` has the arrays that these words may name.
     fn read(alloc: Global, store: &Store, words: &mut Words) -> Result<Self, Fault>
         requires { HasGoodArrays store.now };
 
-    /// Returns whether there are such states.
+    /// Returns whether a state of the range can be created.
     fn fit(&self) -> bool;
 
-    /// Creates a state that has seen no row. The error is `Case`, if there can be none, or else
-    /// `Memory`.
+    /// Creates a state of the range that has seen no row. The error is `Case` if no state of the
+    /// range can be created, or else `Memory`.
     fn new_state(&self, alloc: Global) -> Result<Self::State, Fault>;
 }
 
-/// Creates a state of the range given by words.
+/// Reads a range from `words`, and creates a state of it that has seen no row. The error is that of
+/// `N::read`, or else that of `new_state`.
 pub fn read_new<N: NewStates>(
     alloc: Global,
     store: &Store,
@@ -43,12 +46,13 @@ pub fn read_new<N: NewStates>(
     N::read(alloc, store, words)?.new_state(alloc)
 }
 
-/// A range of numbers, given by two words: the first and the last number.
+/// A range of numbers. `read` takes two words, the first and the last number.
 #[derive(Drop)]
 pub enum NumberRange<T: RecordedNumber> {
-    /// No numbers.
+    /// The numbers from the first field to the second. There are none if the first is greater; then
+    /// no state can be created.
     Between(T, T),
-    /// None.
+    /// A range without numbers. Its states accept only arrays in which all rows are null.
     Empty,
 }
 
@@ -76,7 +80,8 @@ impl<T: RecordedNumber> NewStates for NumberRange<T> {
     }
 }
 
-// Creates a state of the numbers from `least` to `greatest`.
+// Creates a state of the numbers from `least` to `greatest`. The error is `Case` if no such state
+// can be created, or else `Memory`.
 fn state_between<T: RecordedNumber>(
     alloc: Global,
     least: T,
@@ -88,7 +93,7 @@ fn state_between<T: RecordedNumber>(
     PrimitiveRangedUniqueState::new(alloc, least, greatest).map_err(Fault::from)
 }
 
-/// Both truth values, given by no words.
+/// The range of both truth values. `read` takes no words.
 #[derive(Drop)]
 pub struct Truths;
 
@@ -108,7 +113,7 @@ impl NewStates for Truths {
     }
 }
 
-/// The keys of a dictionary, given by one word: the name of the entries.
+/// The range of the keys of a dictionary. `read` takes one word, the name of the entries.
 #[derive(Drop)]
 pub struct Entries {
     entries: AnyArray,
@@ -145,7 +150,7 @@ impl NewStates for Entries {
     }
 }
 
-// Clones an array.
+// Clones `array`. The error is `Memory`.
 fn copy_array(alloc: Global, array: &AnyArray) -> Result<AnyArray, Fault>
     requires { IsGood array.now }
     ensures { IfOk result (λ copy. IsGood copy) }
@@ -154,8 +159,8 @@ fn copy_array(alloc: Global, array: &AnyArray) -> Result<AnyArray, Fault>
     Ok(copy)
 }
 
-/// Creates a state of the keys of a clone of these entries. The error is `Case`, if there can be
-/// none, or else `Memory`.
+/// Creates a state of the keys of a dictionary, with a clone of `entries` as its entries. The error
+/// is `Case` if keys of type `u32` cannot refer to all entries, or else `Memory`.
 pub fn new_state_over(
     alloc: Global,
     entries: &AnyArray,
@@ -165,7 +170,8 @@ pub fn new_state_over(
     state_over(alloc, copy_array(alloc, entries)?)
 }
 
-// Creates a state of the keys of these entries.
+// Creates a state of the keys of a dictionary with the entries `entries`. The error is `Case` if
+// keys of type `u32` cannot refer to all entries, or else `Memory`.
 fn state_over(alloc: Global, entries: AnyArray) -> Result<DictionaryRangedUniqueState, Fault>
     requires { IsGood entries }
 {

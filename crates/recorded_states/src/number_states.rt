@@ -1,4 +1,4 @@
-//! Calls on states of numbers. The word after a call is the type of the numbers.
+//! Calls on states of numbers. The first word after the name of a call is the type of the numbers.
 
 ghost use Rattle.recorded_text.specs.Cases.{HasGoodArrays};
 
@@ -11,18 +11,20 @@ use recorded_text::store::Store;
 use recorded_text::words::Words;
 use std::alloc::Global;
 
-// A question about states of numbers.
+// A call on states of numbers.
 #[derive(Clone, Copy)]
 enum NumberQuestion {
-    // A question about states of any range.
+    // A call that exists for each kind of range.
     OfRange(Question),
-    // Two states with arrays appended, and the numbers of rows read.
+    // `state_numbers`: two states with arrays appended, separate and merged, and the numbers of
+    // rows read.
     Counted,
-    // Two states of no numbers with arrays appended, and the numbers of rows read.
+    // `state_empty`: as `Counted`, for states of an empty range of numbers.
     CountedInNone,
 }
 
-// Returns the question of a call, or `None` for a call of another subject.
+// Returns the `NumberQuestion` for the call with the name `call`, or `None` if it is not a call on
+// states of numbers.
 fn question_of(call: &str) -> Option<NumberQuestion> {
     match call {
         "range_fits" => Some(NumberQuestion::OfRange(Question::Fit)),
@@ -38,7 +40,8 @@ fn question_of(call: &str) -> Option<NumberQuestion> {
     }
 }
 
-/// Returns the result of a call of this subject, or `None` for any other call.
+/// Reads the type and the operands of `call` from `words`, and returns the result as text. Returns
+/// `None` if `call` is not the name of a call on states of numbers.
 pub fn answer(
     alloc: Global,
     call: &str,
@@ -53,7 +56,8 @@ pub fn answer(
     }
 }
 
-// Returns the result for the type that the next word names.
+// Reads the type of the numbers from the next of `words`, and returns the result of `question` for
+// this type. The error is `Word` if there is no such type, or else that of `answer_numbers`.
 fn answer_typed(
     alloc: Global,
     question: NumberQuestion,
@@ -75,7 +79,8 @@ fn answer_typed(
     }
 }
 
-// Returns the result for one type.
+// Returns the result of `question` for numbers of type `T`. `words` has the operands after the
+// type.
 fn answer_numbers<T: RecordedNumber>(
     alloc: Global,
     question: NumberQuestion,

@@ -7,7 +7,8 @@ use recorded_text::fault::Fault;
 use std::fmt::Display;
 use std::str::FromStr;
 
-/// Returns the array inside an array of any kind. The error is `Case`, if it is of another kind.
+/// Returns the array that `$any`, an `AnyArray`, holds, if it is of the kind `$kind`. The error is
+/// `Case` if it is of another kind.
 macro_rules! rows_in {
     ($any:expr, $kind:ident) => {
         match $any {
@@ -19,10 +20,11 @@ macro_rules! rows_in {
 
 pub(crate) use rows_in;
 
-/// A number type that lines write, and that arrays of one kind hold.
+/// A number type of which there are states. Lines can hold its numbers as text, and an `AnyArray`
+/// of one kind holds them.
 pub trait RecordedNumber: UniqueNumber + Display + FromStr<Err: Drop> {
-    /// Returns the array of such numbers inside an array of any kind. The error is `Case`, if it
-    /// holds others.
+    /// Returns the array that `any` holds, if its numbers are of this type. The error is `Case` if
+    /// they are not.
     fn rows_in(any: &AnyArray) -> Result<&PrimitiveArray<Self>, Fault>;
 }
 

@@ -1,16 +1,17 @@
-//! Two states with arrays appended, separate and merged. Each has the text of `seen`. Parts are
-//! separated by ` | `.
+//! Calls on two states with arrays appended, separate and merged. The arrays A.. are appended to
+//! the first state, and B.. to the second. Each state is written as text in the form that `seen`
+//! describes. The parts of a result are separated by ` | `.
 //!
-//! - `state_numbers TYPE MIN MAX A.. | B..`: the number of rows read of each array before the bar;
-//!   those of the arrays after it; the state of the arrays before the bar; that of the arrays after
-//!   it; and the first state with the second merged into it
-//! - `state_empty TYPE A.. | B..`: the numbers of rows and the three states, for states of no
-//!   numbers
-//! - `state_truths A.. | B..`: the three states, of truth values
-//! - `state_keys V A.. | W B..`: the three states, of keys of the entries V and W, and the second
-//!   with the first merged into it
-//! - `state_keys_rows V A.. | W B..`: the entries that the first state names with the second merged
-//!   into it
+//! - `state_numbers TYPE MIN MAX A.. | B..`: the numbers of rows read of each of A.., the numbers
+//!   of rows read of each of B.., the first state, the second, and the first with the second merged
+//!   into it. Both states are of the numbers from MIN to MAX
+//! - `state_empty TYPE A.. | B..`: the same parts, for states of an empty range of numbers
+//! - `state_truths A.. | B..`: the first state, the second, and the first with the second merged
+//!   into it. Both are of truth values
+//! - `state_keys V A.. | W B..`: the same parts as in `state_truths`, for states of the keys of
+//!   dictionaries with the entries V and W; then the second state with the first merged into it
+//! - `state_keys_rows V A.. | W B..`: the rows of the array to which the first state is finalised
+//!   after the second was merged into it
 
 ghost use Rattle.recorded_text.specs.Cases.{HasGoodArrays};
 
@@ -24,7 +25,7 @@ use recorded_text::store::Store;
 use recorded_text::words::Words;
 use std::alloc::Global;
 
-// Splits words at the first bar, and leaves the bar out. Fails with `Word` if there is no bar.
+// Returns the words before and after the first `|`. The error is `Word` if there is none.
 fn split_at_bar<'a>(words: &'a [&'a str]) -> Result<(&'a [&'a str], &'a [&'a str]), Fault> {
     match words.iter().position(|word| *word == "|") {
         Some(at) => Ok((&words[..at], &words[at + 1..])),
@@ -32,7 +33,8 @@ fn split_at_bar<'a>(words: &'a [&'a str]) -> Result<(&'a [&'a str], &'a [&'a str
     }
 }
 
-/// Returns two states of one range, and the numbers of rows read.
+/// Reads the names of arrays before and after a `|` from `words`. Returns the text of
+/// `state_numbers` for states of `range`. If `range` is an error, returns it.
 pub fn of_range<N: NewStates<State: CountedState>>(
     alloc: Global,
     range: Result<N, Fault>,
@@ -46,7 +48,9 @@ pub fn of_range<N: NewStates<State: CountedState>>(
     write_counted(alloc, &range, store, left, right)
 }
 
-// Returns the numbers of rows read of the arrays before and after the bar, and the states.
+// Returns the text of `state_numbers`: the numbers of rows read of the arrays `left` and of the
+// arrays `right`, two states of `range` to which these were appended, and the first with the second
+// merged into it.
 fn write_counted<N: NewStates<State: CountedState>>(
     alloc: Global,
     range: &N,
@@ -69,7 +73,8 @@ fn write_counted<N: NewStates<State: CountedState>>(
     )
 }
 
-// Creates a state, appends arrays, and appends the number of rows read of each to a text.
+// Creates a state of `range`, and appends the arrays that `names` lists to it. Appends the number
+// of rows read of each to `text`.
 fn counted<N: NewStates<State: CountedState>>(
     alloc: Global,
     text: &mut String,
@@ -84,7 +89,9 @@ fn counted<N: NewStates<State: CountedState>>(
     if_done(state, pushed)
 }
 
-// Appends arrays to a state, and the number of rows read of each to a text.
+// Appends the arrays that `names` lists to `state`, and the number of rows read of each to `text`,
+// separated by spaces. The error is `Case` if there is no array of a name, if it is of the wrong
+// kind, or if the state does not accept it. Otherwise the error is `Memory`.
 fn push_steps<S: CountedState>(
     text: &mut String,
     state: &mut S,
@@ -101,8 +108,8 @@ fn push_steps<S: CountedState>(
     Ok(())
 }
 
-// Appends three states to a text: `first`, `second`, and `again` with `second` merged into it.
-// Before the merge, `again` must be equal to `first`.
+// Appends three states to `text`, each after a bar: `first`, `second`, and `again` with `second`
+// merged into it. `again` must be equal to `first`. If `again` is an error, returns that error.
 fn add_states<S: RecordedState>(
     alloc: Global,
     text: String,
@@ -116,19 +123,22 @@ fn add_states<S: RecordedState>(
     add_seen(alloc, text, both)
 }
 
-// Returns a state with another one merged into it, unless there is an error.
+// Merges `other` into the state `made`, and returns the merged state. If `made` is an error,
+// returns that error. Otherwise the error is `Case` if the ranges of the two states differ.
 fn with_joined<S: RecordedState>(made: Result<S, Fault>, other: &S) -> Result<S, Fault> {
     let mut state = made?;
     let joined = join(&mut state, other);
     if_done(state, joined)
 }
 
-// Merges a state into another one, unless there is an error.
+// Merges the state `made` into `state`. If `made` is an error, returns that error. Otherwise the
+// error is `Case` if the ranges of the two states differ.
 fn join_made<S: RecordedState>(state: &mut S, made: Result<S, Fault>) -> Result<(), Fault> {
     join(state, &made?)
 }
 
-// Returns the states of two columns, and the first with the second merged into it.
+// Returns the state of the column `left`, that of the column `right`, and the first with the second
+// merged into it, as text. Each column is the words that `read_state` reads.
 fn write_columns<N: NewStates>(
     alloc: Global,
     store: &Store,
@@ -142,7 +152,8 @@ fn write_columns<N: NewStates>(
     add_seen(alloc, text, joined::<N>(alloc, store, left, right))
 }
 
-// Returns the state of a column with that of another one merged into it.
+// Creates the states of two columns, and returns the state of `column` with the state of `other`
+// merged into it. The error is `Case` if their ranges differ, or else as in `read_state`.
 fn joined<N: NewStates>(
     alloc: Global,
     store: &Store,
@@ -156,7 +167,8 @@ fn joined<N: NewStates>(
     if_done(state, joined)
 }
 
-/// Returns the states of two columns, and the first with the second merged into it.
+/// Reads two columns from `words`, separated by `|`. Returns the state of the first, that of the
+/// second, and the first with the second merged into it, as text.
 pub fn of_columns<N: NewStates>(
     alloc: Global,
     store: &Store,
@@ -168,8 +180,8 @@ pub fn of_columns<N: NewStates>(
     write_columns::<N>(alloc, store, left, right)
 }
 
-/// Returns the states of two columns, the first with the second merged into it, and the second with
-/// the first.
+/// Reads two columns from `words`, separated by `|`. Returns their two states, the first with the
+/// second merged into it, and the second with the first merged into it, as text.
 pub fn either_way<N: NewStates>(
     alloc: Global,
     store: &Store,
@@ -182,7 +194,9 @@ pub fn either_way<N: NewStates>(
     add_seen(alloc, text, joined::<N>(alloc, store, right, left))
 }
 
-/// Reads two columns, and returns the state of the first with that of the second merged into it.
+/// Reads two columns from `words`, separated by `|`. Returns the state of the first with that of
+/// the second merged into it. The error is `Word` if there is no `|`, `Case` if the ranges of the
+/// columns differ, or else as in `read_state`.
 pub fn read_joined<N: NewStates>(
     alloc: Global,
     store: &Store,

@@ -1,4 +1,4 @@
-//! Calls on states of any range.
+//! Calls that exist for each kind of range: numbers, truth values, and keys of dictionaries.
 
 ghost use Rattle.recorded_text.specs.Cases.{HasGoodArrays};
 
@@ -16,21 +16,23 @@ pub enum Question {
     Fit,
     /// A test of whether a state accepts an array.
     Accept,
-    /// A test of whether two states have one range.
+    /// A test of whether two new states have the same range.
     SameRange,
-    /// A state to which all arrays were appended.
+    /// The text of a state to which several arrays were appended at once.
     AppendAll,
-    /// The stored values of the array to which such a state is finalised.
+    /// The stored values of the array to which a state is finalised, after several arrays were
+    /// appended to it at once.
     Stored,
-    /// Two states, separate and merged.
+    /// Two states with arrays appended, separate and merged.
     Pair,
-    /// The merged leaves of a tree, which have one range.
+    /// The merged states of a tree, all of a range that is given once, before the tree.
     MergeTree,
-    /// A test of whether all leaves of a tree have one range.
+    /// A test of whether all states of a tree have the same range.
     OneRange,
 }
 
-/// Returns the result of a call, for the range or ranges given by words.
+/// Reads the operands of `question` from `words`, for ranges of the kind `N`, and returns the
+/// result as text.
 pub fn answer_question<N: NewStates>(
     alloc: Global,
     question: Question,
@@ -53,7 +55,8 @@ pub fn answer_question<N: NewStates>(
     }
 }
 
-/// Returns the text of a truth value, unless there is an error.
+/// Returns `true` or `false` as text. If `truth` is an error, returns it. Otherwise the error is
+/// `Memory`.
 pub fn write_truth(alloc: Global, truth: Result<bool, Fault>) -> Result<String, Fault> {
     truth?.to_string(alloc).map_err(Fault::from)
 }

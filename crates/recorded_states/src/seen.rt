@@ -1,6 +1,8 @@
-//! The contents of a state as text: whether it has seen all values and a null, the number of rows
-//! it is finalised to, the number of present ones, and the rows, for dictionaries their keys; or
-//! `refused:` and the error in place of the rows.
+//! States as text. The text has, separated by spaces: whether the state has seen all values of its
+//! range and a null (`true` or `false`), the number of rows of the array to which it is finalised,
+//! the number of these rows that are present, and the rows. The rows of a state of dictionary keys
+//! are the keys. If the state cannot be finalised, `refused:` and the error stand in place of the
+//! rows.
 
 use crate::state_kinds::{RecordedState, Shown};
 use polars_arrays_bits::error::ComputeError;
@@ -8,10 +10,11 @@ use polars_compute_unique::kernel::RangedUniqueKernel;
 use recorded_text::fault::Fault;
 use std::alloc::Global;
 
-/// The text between the parts of a result.
+/// The separator of the parts of a result.
 pub const BAR: &str = " | ";
 
-/// Returns the text of a state, unless there is an error.
+/// Returns the text of `state`. If `state` is an error, returns it. Otherwise the error is
+/// `Memory`, or `Case` if a row cannot be written.
 pub fn write_seen<S: RecordedState>(
     alloc: Global,
     state: Result<S, Fault>,
@@ -21,7 +24,8 @@ pub fn write_seen<S: RecordedState>(
     Ok(text)
 }
 
-/// Appends a bar and a state to a text, unless there is an error.
+/// Appends a bar and the text of `state` to `text`, and returns `text`. If `text` or `state` is an
+/// error, returns it. Other errors are those of `write_seen`.
 pub fn add_seen<S: RecordedState>(
     alloc: Global,
     text: Result<String, Fault>,
@@ -32,7 +36,8 @@ pub fn add_seen<S: RecordedState>(
     Ok(text)
 }
 
-// Appends a separator and a state, unless there is an error.
+// Appends the separator `before` and the text of `state` to `text`. If `state` is an error, returns
+// it.
 fn push_seen<S: RecordedState>(
     alloc: Global,
     text: &mut String,
@@ -44,7 +49,7 @@ fn push_seen<S: RecordedState>(
     push_end::<S>(text, state.finalize_unique(alloc))
 }
 
-// Appends what is known of a state before it is finalised.
+// Appends `before`, and the parts of the text of `state` that stand before the rows.
 fn push_counts<S: RangedUniqueKernel>(
     text: &mut String,
     before: &str,
@@ -56,7 +61,8 @@ fn push_counts<S: RangedUniqueKernel>(
     write!(text, "{before}{all} {rows} {present}").map_err(Fault::from)
 }
 
-// Appends the rows of the array that a state was finalised to, or the error.
+// Appends the rows of `end`, the array to which a state was finalised. If `end` is an error,
+// appends `refused:` and the error, or returns `Memory` if an allocation failed.
 fn push_end<S: RecordedState>(
     text: &mut String,
     end: Result<S::Array, ComputeError>,
@@ -67,7 +73,7 @@ fn push_end<S: RecordedState>(
     }
 }
 
-// Appends each row, after a space.
+// Appends the rows of an array, each after a space.
 fn push_rows<S: RecordedState>(text: &mut String, rows: &S::Array) -> Result<(), Fault> {
     for i in 0..S::count_rows(rows) {
         text.push(' ')?;
@@ -76,7 +82,8 @@ fn push_rows<S: RecordedState>(text: &mut String, rows: &S::Array) -> Result<(),
     Ok(())
 }
 
-// Appends the error of a state, unless it is a failed allocation.
+// Appends `refused:` and the error `refused` to `text`. If the error is a failed allocation,
+// appends nothing and returns `Memory`.
 fn push_refusal(text: &mut String, refused: ComputeError) -> Result<(), Fault> {
     match refused {
         ComputeError::Memory(_) => Err(Fault::Memory),

@@ -1,8 +1,8 @@
-//! The distinct rows of one array of truth values.
+//! Calls for the distinct rows of one array of truth values.
 //!
-//! - `unique A`: the rows
-//! - `n_unique A`: the number of them
-//! - `n_unique_non_null A`: the number of present ones
+//! - `unique A`: the distinct rows
+//! - `n_unique A`: the number of distinct rows. Null counts as a row
+//! - `n_unique_non_null A`: the number of distinct rows that are present
 
 ghost use Rattle.recorded_text.specs.Cases.{HasGoodArrays};
 
@@ -18,7 +18,8 @@ use recorded_text::store::Store;
 use recorded_text::words::Words;
 use std::alloc::Global;
 
-/// Returns the result of a call of this subject, or `None` for any other call.
+/// Reads the name of an array from `words`, and returns the result of `call` for this array as
+/// text. Returns `None` if `call` is not the name of a call of this module.
 pub fn answer(
     alloc: Global,
     call: &str,
@@ -35,7 +36,9 @@ pub fn answer(
     }
 }
 
-// Returns the result of a call of this subject.
+// Reads the name of an array of truth values from `words`, and returns the result of `call` as
+// text. The error is `Case` if there is no such array, or if it is of another kind. It is `Word` if
+// there is no next word, or if `call` is not a call of this module. Otherwise it is `Memory`.
 fn answer_distinct(
     alloc: Global,
     call: &str,
@@ -53,12 +56,13 @@ fn answer_distinct(
     }
 }
 
-// Returns the rows of the array that a call returned.
+// Returns the rows of `made` as text, and drops the array. If `made` is an error, returns `Memory`
+// for a failed allocation, or else `Case`.
 fn write_unique(alloc: Global, made: Result<BooleanArray, ComputeError>) -> Result<String, Fault> {
     write_made(alloc, AnyArray::Boolean(made?))
 }
 
-// Returns the text of a number of rows.
+// Returns `count` as text. The error is `Memory`.
 fn write_count(alloc: Global, count: usize) -> Result<String, Fault> {
     count.to_string(alloc).map_err(Fault::from)
 }

@@ -1,4 +1,4 @@
-//! The kinds of states, with all that lines require of each.
+//! The kinds of states, and the operations that each has for reading and writing arrays.
 
 use crate::numbers::{RecordedNumber, rows_in};
 use polars_arrays_bits::bitmap::Bitmap;
@@ -18,10 +18,10 @@ use recorded_text::fault::Fault;
 use std::alloc::Global;
 use std::fmt::Display;
 
-/// A state whose arrays lines name.
+/// A state of distinct values, for use with arrays that lines name.
 pub trait RecordedState: RangedUniqueKernel<Array: Drop> + Drop {
-    /// Returns the array inside an array of any kind. The error is `Case`, if it is not of the
-    /// state's kind.
+    /// Returns the array that `any` holds, if it is of the kind that the state accepts. The error
+    /// is `Case` if it is of another kind.
     fn rows_in(any: &AnyArray) -> Result<&Self::Array, Fault>;
 
     /// Clones an array.
@@ -30,7 +30,9 @@ pub trait RecordedState: RangedUniqueKernel<Array: Drop> + Drop {
     /// Returns the number of rows of an array.
     fn count_rows(rows: &Self::Array) -> usize;
 
-    /// Appends row `i` of an array; for a dictionary this is the key.
+    /// Appends row `i` of `rows` to `text`, in the form `shown`. For a dictionary array, this is
+    /// the key of the row. The error is `Case` if there is no row `i`, or if keys are not of type
+    /// `u32`, or else `Memory`.
     fn push_row(text: &mut String, rows: &Self::Array, shown: Shown, i: usize) -> Result<(), Fault>;
 }
 
@@ -43,10 +45,10 @@ pub enum Shown {
     Stored,
 }
 
-/// A state that counts the rows it reads.
+/// A state that can count the rows that it reads.
 pub trait CountedState: RecordedState {
-    /// Appends an array, and returns the number of rows read. The error is `Case`, if the state
-    /// does not accept it.
+    /// Appends `array` to the state, and returns the number of rows read. The error is `Case` if
+    /// the state does not accept the array.
     fn append_and_count(&mut self, array: &Self::Array) -> Result<u64, Fault>;
 }
 
@@ -135,7 +137,8 @@ impl RecordedState for DictionaryRangedUniqueState {
     }
 }
 
-// Appends row `i` of an array of numbers.
+// Appends row `i` of an array of numbers to `text`, in the form `shown`. The error is `Case` if
+// there is no row `i`, or else `Memory`.
 fn push_number<T: RecordedNumber>(
     text: &mut String,
     rows: &PrimitiveArray<T>,
@@ -146,7 +149,8 @@ fn push_number<T: RecordedNumber>(
     push_value(text, null, rows.values().get(i).copied())
 }
 
-// Returns whether row `i` is written as null.
+// Returns whether row `i` of an array with `validity` is written as null, in the form `shown`. A
+// null row is written as null only in the form `Shown::Row`.
 fn is_shown_null(shown: Shown, validity: Option<&Bitmap>, i: usize) -> bool {
     match shown {
         Shown::Row => is_null(validity, i),
@@ -154,7 +158,8 @@ fn is_shown_null(shown: Shown, validity: Option<&Bitmap>, i: usize) -> bool {
     }
 }
 
-// Appends `null`, or the value of a row.
+// Appends `value` to `text`, or `null` if `null` is true. The error is `Case` if `value` is `None`,
+// or else `Memory`.
 fn push_value<V: Copy + Display>(
     text: &mut String,
     null: bool,

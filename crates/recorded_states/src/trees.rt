@@ -1,18 +1,20 @@
-//! Trees of states, in postfix notation: leaves of some words each, and `+`, which joins the two
-//! trees before it.
+//! Calls on trees of states. A tree is written in postfix notation: a leaf is one or two words, and
+//! `+` joins the two trees before it.
 //!
-//! The states merged, in the form of `seen`:
+//! Calls that merge all states of a tree. The result is the text of the merged state, in the form
+//! that `seen` describes:
 //!
-//! - `merge_tree_numbers TYPE MIN MAX TREE`; a leaf A is a state of the numbers from MIN to MAX, to
-//!   which A is appended
-//! - `merge_tree_truths TREE`; a leaf A is a state of truth values, to which A is appended
-//! - `merge_tree_keys TREE`; a leaf V A is a state of the keys of the entries V, to which A is
+//! - `merge_tree_numbers TYPE MIN MAX TREE`: a leaf A is a state of the numbers from MIN to MAX, to
+//!   which the array A is appended
+//! - `merge_tree_truths TREE`: a leaf A is a state of truth values, to which the array A is
 //!   appended
+//! - `merge_tree_keys TREE`: a leaf V A is a state of the keys of a dictionary with the entries V,
+//!   to which the array A is appended
 //!
-//! `true` if all leaves have one range, or else `false`:
+//! Calls that test whether all leaves have the same range. The result is `true` or `false`:
 //!
-//! - `one_range_numbers TYPE TREE`; a leaf MIN MAX is a new state of these numbers
-//! - `one_range_keys TREE`; a leaf V is a new state of the keys of these entries
+//! - `one_range_numbers TYPE TREE`: a leaf MIN MAX is a new state of the numbers from MIN to MAX
+//! - `one_range_keys TREE`: a leaf V is a new state of the keys of a dictionary with the entries V
 
 ghost use Rattle.recorded_text.specs.Cases.{HasGoodArrays};
 
@@ -29,15 +31,18 @@ use std::alloc::Global;
 // The meaning of the words of a leaf.
 #[derive(Drop)]
 enum Leaves<N: NewStates> {
-    // An array, to append to a new state of this range.
+    // The name of an array. The leaf is a state of the range in the field, to which the array is
+    // appended.
     Within(N),
-    // A range, and an array to append to a new state of it.
+    // A range, and the name of an array. The leaf is a state of the range, to which the array is
+    // appended.
     Gathered,
-    // The range of a new state.
+    // A range. The leaf is a new state of the range.
     New,
 }
 
-/// Returns the merged states of leaves of one range, given by words.
+/// Reads a range and a tree from `words`. The leaves are names of arrays, appended to states of the
+/// range. Returns the text of the merged state.
 pub fn merge_in_range<N: NewStates>(
     alloc: Global,
     store: &Store,
@@ -49,7 +54,8 @@ pub fn merge_in_range<N: NewStates>(
     merge(alloc, &leaves, store, words)
 }
 
-/// Returns the merged states of leaves, each of a range given by its own words.
+/// Reads a tree from `words`, in which each leaf has a range and the name of an array. Returns the
+/// text of the merged state.
 pub fn merge_leaves<N: NewStates>(
     alloc: Global,
     store: &Store,
@@ -60,7 +66,9 @@ pub fn merge_leaves<N: NewStates>(
     merge::<N>(alloc, &Leaves::Gathered, store, words)
 }
 
-// Returns the merged states of a tree.
+// Reads a tree from `words`, with leaves as `leaves` says, and returns the text of the merged
+// state. The error is `Case` if the ranges of the leaves differ, or else that of `read_tree` or of
+// `write_seen`.
 fn merge<N: NewStates>(
     alloc: Global,
     leaves: &Leaves<N>,
@@ -73,7 +81,8 @@ fn merge<N: NewStates>(
     write_merged(alloc, tree)
 }
 
-// Returns the text of the merged states of a tree. The error is `Case`, if their ranges differ.
+// Merges all states of `tree`, and returns the text of the merged state. The error is `Case` if the
+// ranges of the states differ, or else that of `write_seen`.
 fn write_merged<S: RecordedState>(alloc: Global, tree: MergeTree<S>) -> Result<String, Fault> {
     if !tree.one_range() {
         return Err(Fault::Case);
@@ -81,7 +90,9 @@ fn write_merged<S: RecordedState>(alloc: Global, tree: MergeTree<S>) -> Result<S
     write_seen(alloc, Ok(merge_tree(tree)))
 }
 
-/// Returns whether the new states of a tree have one range.
+/// Reads a tree from `words`, in which each leaf is a range, and returns whether all leaves have
+/// the same range. The error is that of `read_tree`, for example `Case` if no state of a range can
+/// be created.
 pub fn have_one_range<N: NewStates>(
     alloc: Global,
     store: &Store,
@@ -93,7 +104,8 @@ pub fn have_one_range<N: NewStates>(
     Ok(tree.one_range())
 }
 
-// Reads a tree.
+// Reads a tree from `words`, with leaves as `leaves` says. The error is `Word` if the words do not
+// form one tree, or else that of `read_leaf`, or `Memory`.
 fn read_tree<N: NewStates>(
     alloc: Global,
     leaves: &Leaves<N>,
@@ -107,7 +119,8 @@ fn read_tree<N: NewStates>(
     take_only(&mut trees)
 }
 
-// Returns the only tree.
+// Removes the only tree of `trees`, and returns it. The error is `Word` if there is none, or more
+// than one.
 fn take_only<S: RecordedState>(trees: &mut Vec<MergeTree<S>>) -> Result<MergeTree<S>, Fault> {
     if trees.len() > 1 {
         return Err(Fault::Word);
@@ -118,7 +131,8 @@ fn take_only<S: RecordedState>(trees: &mut Vec<MergeTree<S>>) -> Result<MergeTre
     }
 }
 
-// Reads a sequence of trees.
+// Reads trees from all of `words`, with leaves as `leaves` says, and appends them to `trees`. A `+`
+// joins the last two trees read so far.
 fn read_trees<N: NewStates>(
     alloc: Global,
     trees: &mut Vec<MergeTree<N::State>>,
@@ -137,7 +151,8 @@ fn read_trees<N: NewStates>(
     Ok(())
 }
 
-// Joins the last two trees, or reads a leaf.
+// Reads a `+` from `words`, and joins the last two of `trees`. If the next word is not `+`, reads a
+// leaf, and appends it to `trees`.
 fn read_part<N: NewStates>(
     alloc: Global,
     trees: &mut Vec<MergeTree<N::State>>,
@@ -154,7 +169,7 @@ fn read_part<N: NewStates>(
     push_tree(trees, MergeTree::Leaf(state))
 }
 
-// Appends a tree.
+// Appends `tree` to `trees`. The error is `Memory`.
 fn push_tree<S: RecordedState>(
     trees: &mut Vec<MergeTree<S>>,
     tree: MergeTree<S>,
@@ -163,14 +178,16 @@ fn push_tree<S: RecordedState>(
     Ok(())
 }
 
-// Joins the last two trees.
+// Replaces the last two of `trees` by a tree that joins them. The error is `Word` if there are
+// fewer than two, or else `Memory`.
 fn join_last<S: RecordedState>(alloc: Global, trees: &mut Vec<MergeTree<S>>) -> Result<(), Fault> {
     let right = box_last(alloc, trees)?;
     let left = box_last(alloc, trees)?;
     push_tree(trees, MergeTree::Node(left, right))
 }
 
-// Removes the last tree, and puts it in a box.
+// Removes the last of `trees`, and returns it in a box. The error is `Word` if there is none, or
+// else `Memory`.
 fn box_last<S: RecordedState>(
     alloc: Global,
     trees: &mut Vec<MergeTree<S>>,
@@ -181,7 +198,8 @@ fn box_last<S: RecordedState>(
     }
 }
 
-// Reads the state of a leaf.
+// Reads the words of a leaf as `leaves` says, and creates its state. The error is that of
+// `N::read`, `read_gathered` or `read_new`.
 fn read_leaf<N: NewStates>(
     alloc: Global,
     leaves: &Leaves<N>,
@@ -197,7 +215,8 @@ fn read_leaf<N: NewStates>(
     }
 }
 
-// Creates a state, and appends the array that a word names.
+// Reads the name of an array from the next of `words`, creates a state of `range`, and appends the
+// array to it. The error is `Word` if there is no next word, or else that of `gathered`.
 fn read_gathered<N: NewStates>(
     alloc: Global,
     range: &N,

@@ -9,7 +9,8 @@ use recorded_text::store::Store;
 use recorded_text::words::Words;
 use std::alloc::Global;
 
-// Returns the question of a call, or `None` for a call of another subject.
+// Returns the `Question` for the call with the name `call`, or `None` if it is not a call on states
+// of truth values.
 fn question_of(call: &str) -> Option<Question> {
     match call {
         "accepts_truths" => Some(Question::Accept),
@@ -21,7 +22,8 @@ fn question_of(call: &str) -> Option<Question> {
     }
 }
 
-/// Returns the result of a call of this subject, or `None` for any other call.
+/// Reads the operands of `call` from `words`, and returns the result as text. Returns `None` if
+/// `call` is not the name of a call on states of truth values.
 pub fn answer(
     alloc: Global,
     call: &str,

@@ -1,4 +1,4 @@
-//! Bits as text.
+//! Bits as text: `b0:` and a digit for each bit. A row for which no bit is defined has an `x`.
 
 use crate::fault::Fault;
 use polars_arrays_bits::bit_mask::BitMask;
@@ -7,12 +7,13 @@ use polars_arrays_bits::error::ComputeError;
 use polars_arrays_flat::mask::Mask;
 use std::alloc::Global;
 
-/// Returns a bit as a digit.
+/// Returns `1` for `true` and `0` for `false`.
 fn digit(bit: bool) -> char {
     if bit { '1' } else { '0' }
 }
 
-/// Returns whether a row is null by its validity.
+/// Returns whether row `i` has a 0 in the validity. Returns `false` if there is no validity, or if
+/// it has no bit for the row.
 pub fn is_null(validity: Option<&Bitmap>, i: usize) -> bool {
     match validity {
         Some(bits) => bits.get(i) == Some(false),
@@ -20,19 +21,21 @@ pub fn is_null(validity: Option<&Bitmap>, i: usize) -> bool {
     }
 }
 
-/// Returns the text of bits: `b0:` and a digit for each.
+/// Returns the text of bits: `b0:` and a digit for each bit. The error is `Memory`.
 pub fn write_bits(alloc: Global, bits: &Bitmap) -> Result<String, Fault> {
     let mut text = String::new(alloc);
     push_bits(&mut text, bits)?;
     Ok(text)
 }
 
-/// Returns the text of the bits that a call returned.
+/// Returns the text of the bits: `b0:` and a digit for each bit. If `bits` is an error, returns it
+/// as a `Fault`.
 pub fn write_made(alloc: Global, bits: Result<Bitmap, ComputeError>) -> Result<String, Fault> {
     write_bits(alloc, &bits?)
 }
 
-/// Returns the text of the mask that a call returned: that of its bits, or `none` if it has none.
+/// Returns the text of the bits of a mask, or `none` if the mask has no bits. If `mask` is an
+/// error, returns it as a `Fault`.
 pub fn write_made_mask(
     alloc: Global,
     mask: Result<Mask<'_>, ComputeError>,
@@ -40,7 +43,7 @@ pub fn write_made_mask(
     write_mask(alloc, &mask?)
 }
 
-// Returns the text of a mask.
+// Returns the text of the bits of a mask, or `none` if the mask has no bits.
 fn write_mask(alloc: Global, mask: &Mask<'_>) -> Result<String, Fault> {
     match mask.bits() {
         Some(bits) => write_lent(alloc, &bits),
@@ -48,7 +51,7 @@ fn write_mask(alloc: Global, mask: &Mask<'_>) -> Result<String, Fault> {
     }
 }
 
-// Returns the text of borrowed bits.
+// Returns the text of borrowed bits: `b0:` and a digit for each bit.
 fn write_lent(alloc: Global, bits: &BitMask<'_>) -> Result<String, Fault> {
     let mut text = String::new(alloc);
     text.push_str("b0:")?;
@@ -58,7 +61,7 @@ fn write_lent(alloc: Global, bits: &BitMask<'_>) -> Result<String, Fault> {
     Ok(text)
 }
 
-/// Appends the text of bits.
+/// Appends the text of bits to `text`: `b0:` and a digit for each bit.
 pub fn push_bits(text: &mut String, bits: &Bitmap) -> Result<(), Fault> {
     text.push_str("b0:")?;
     for i in 0..bits.len() {
@@ -67,8 +70,8 @@ pub fn push_bits(text: &mut String, bits: &Bitmap) -> Result<(), Fault> {
     Ok(())
 }
 
-/// Returns the text of bits that are defined only where no validity masks the row: `b0:` and for
-/// each row a digit, or `x` if it is masked.
+/// Returns the text of bits, one for each row: `b0:` and for each row its bit as a digit, or `x` if
+/// the row is null in the validity `left` or `right`.
 pub fn write_present(
     alloc: Global,
     bits: &Bitmap,
@@ -84,13 +87,13 @@ pub fn write_present(
     Ok(text)
 }
 
-/// Returns a bit as a digit, or `x` for a masked row.
+/// Returns `x` if `masked` is true, otherwise the digit of `bit`.
 fn digit_or_mask(bit: bool, masked: bool) -> char {
     if masked { 'x' } else { digit(bit) }
 }
 
-/// Returns the text of bits that a call returned and that are defined only where no validity masks
-/// the row: `b0:` and for each row a digit, or `x` if it is masked.
+/// Returns the text of bits as `write_present` does. If `bits` is an error, returns it as a
+/// `Fault`.
 pub fn write_made_present(
     alloc: Global,
     bits: Result<Bitmap, ComputeError>,
@@ -100,8 +103,8 @@ pub fn write_made_present(
     write_present(alloc, &bits?, left, right)
 }
 
-/// Returns the text of bits that are defined only where both masks have the row: `b0:` and for each
-/// row a digit, or `x`.
+/// Returns the text of bits, one for each row: `b0:` and for each row its bit as a digit, or `x` if
+/// the row is masked by `left` or `right`.
 pub fn write_unmasked(
     alloc: Global,
     bits: &Bitmap,

@@ -4,12 +4,12 @@ use crate::fault::Fault;
 use polars_arrays_flat::byte_rows::ByteRows;
 use std::alloc::Global;
 
-/// The digits of a byte.
+/// The hexadecimal digits by value.
 const DIGITS: [char; 16] = [
     '0', '1', '2', '3', '4', '5', '6', '7', '8', '9', 'a', 'b', 'c', 'd', 'e', 'f',
 ];
 
-/// Appends the text of a byte string.
+/// Appends a byte string to `text`: `x` and two hexadecimal digits for each byte.
 pub fn push_bytes(text: &mut String, bytes: &[u8]) -> Result<(), Fault> {
     text.push('x')?;
     for byte in bytes {
@@ -19,15 +19,15 @@ pub fn push_bytes(text: &mut String, bytes: &[u8]) -> Result<(), Fault> {
     Ok(())
 }
 
-/// Returns the text of a byte string.
+/// Returns a byte string as text: `x` and two hexadecimal digits for each byte.
 pub fn write_bytes(alloc: Global, bytes: &[u8]) -> Result<String, Fault> {
     let mut text = String::new(alloc);
     push_bytes(&mut text, bytes)?;
     Ok(text)
 }
 
-/// Returns the number of rows of an array, the number of nulls, and the byte strings, including
-/// those of null rows.
+/// Returns the byte strings of all rows, null ones included, each followed by a space, then the
+/// number of rows and the number of nulls: `x61 x in 2 rows, 1 null`.
 pub fn write_strings<R: ByteRows>(alloc: Global, rows: &R) -> Result<String, Fault> {
     let mut text = String::new(alloc);
     for i in 0..rows.count() {

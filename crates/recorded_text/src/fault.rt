@@ -1,4 +1,4 @@
-//! Errors of a line.
+//! The errors of reading a line and computing its result.
 
 use polars_arrays_bits::error::{ArrayError, ComputeError};
 use std::alloc::{AllocError, AllocFailed};
@@ -14,13 +14,15 @@ pub enum Fault {
     /// A word is missing or wrong.
     #[error("a word is missing or is another one than should stand there")]
     Word,
-    /// Arrays are nested deeper than the reader allows; the number is the limit.
+    /// Lists, structs and dictionaries are nested deeper than the reader allows. The number is the
+    /// limit.
     #[error("arrays hold arrays more than {0} levels deep")]
     Depth(usize),
-    /// The parts of an array do not match.
+    /// The parts of an array do not match. The error is that of the array's constructor.
     #[error("no array: {0}")]
     Parts(ArrayError),
-    /// The arrays of a case do not exist, or do not have such a result.
+    /// An array of the case does not exist or is not of a kind that the call takes, or the call has
+    /// no result for it.
     #[error("no such array, or no such answer")]
     Case,
     /// A line could not be read or written.

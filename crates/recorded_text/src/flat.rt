@@ -1,4 +1,8 @@
-//! Readers of arrays of one level.
+//! Functions that read arrays of one level.
+//!
+//! In all of them, the parts share their elements if `kept` is `Shared`, and own them otherwise.
+//! The error is `Word` if a word is missing or wrong, `Parts` if the parts do not match, and
+//! `Memory` if an allocation fails.
 
 ghost use Rattle.std.specs.Prelude.{IfOk};
 ghost use Rattle.polars_arrays_nested.specs.GoodParts.{IsGood};
@@ -24,7 +28,7 @@ use polars_arrays_views::view::View;
 use std::alloc::Global;
 use std::str::FromStr;
 
-/// Reads truth values: their bits, and the validity.
+/// Reads an array of truth values: their bits, and the validity.
 pub fn read_booleans(alloc: Global, kept: Kept, words: &mut Words) -> Result<AnyArray, Fault>
     ensures { IfOk result (λ a. IsGood a) }
 {
@@ -33,7 +37,7 @@ pub fn read_booleans(alloc: Global, kept: Kept, words: &mut Words) -> Result<Any
     Ok(AnyArray::Boolean(BooleanArray::try_new(values, validity)?))
 }
 
-/// Reads numbers: their count, each of them, and the validity.
+/// Reads an array of numbers: their count, the numbers, and the validity.
 pub fn read_integers<T: NativeType + FromStr<Err: Drop>>(
     alloc: Global,
     kept: Kept,
@@ -44,7 +48,8 @@ pub fn read_integers<T: NativeType + FromStr<Err: Drop>>(
     Ok(PrimitiveArray::try_new(values, validity)?)
 }
 
-// The parts of an array of strings between offsets.
+// The parts of an array that stores byte strings or texts between offsets: the offsets, the bytes
+// of all strings, and the validity.
 #[derive(Drop)]
 struct StringParts<O: Offset> {
     offsets: Buffer<O>,
@@ -52,7 +57,8 @@ struct StringParts<O: Offset> {
     validity: Option<Bitmap>,
 }
 
-// Reads the parts of an array of strings between offsets.
+// Reads the parts of an array of byte strings or texts between offsets: the count of the offsets,
+// the offsets, the bytes of all strings, and the validity.
 fn read_string_parts<O: Offset + FromStr<Err: Drop>>(
     alloc: Global,
     kept: Kept,
@@ -68,7 +74,8 @@ fn read_string_parts<O: Offset + FromStr<Err: Drop>>(
     })
 }
 
-/// Reads byte strings between offsets: the offsets, the bytes, and the validity.
+/// Reads an array of byte strings between offsets: the count of the offsets, the offsets, the bytes
+/// of all strings, and the validity.
 pub fn read_binary<O: Offset + FromStr<Err: Drop>>(
     alloc: Global,
     kept: Kept,
@@ -78,7 +85,8 @@ pub fn read_binary<O: Offset + FromStr<Err: Drop>>(
     Ok(BinaryArray::try_new(parts.offsets, parts.values, parts.validity)?)
 }
 
-/// Reads texts between offsets, written as byte strings are.
+/// Reads an array of texts between offsets, in the form of `read_binary`. The error is also `Parts`
+/// if a text is not UTF-8.
 pub fn read_text<O: Offset + FromStr<Err: Drop>>(
     alloc: Global,
     kept: Kept,
@@ -88,7 +96,8 @@ pub fn read_text<O: Offset + FromStr<Err: Drop>>(
     Ok(Utf8Array::try_new(parts.offsets, parts.values, parts.validity)?)
 }
 
-// The parts of an array of strings in views.
+// The parts of an array of byte strings or texts in views: a view for each row, the buffers to
+// which views of longer strings refer, and the validity.
 #[derive(Drop)]
 struct ViewParts {
     views: Buffer<View>,
@@ -96,7 +105,8 @@ struct ViewParts {
     validity: Option<Bitmap>,
 }
 
-// Reads the parts of an array of strings in views.
+// Reads the parts of an array of byte strings or texts in views: the views, the buffers, and the
+// validity.
 fn read_view_parts(alloc: Global, kept: Kept, words: &mut Words) -> Result<ViewParts, Fault> {
     let views = kept.buffer(alloc, read_views(alloc, words)?)?;
     let buffers = read_buffers(alloc, kept, words)?;
@@ -108,7 +118,7 @@ fn read_view_parts(alloc: Global, kept: Kept, words: &mut Words) -> Result<ViewP
     })
 }
 
-/// Reads byte strings in views: the views, the buffers, and the validity.
+/// Reads an array of byte strings in views: the views, the buffers, and the validity.
 pub fn read_binary_view(alloc: Global, kept: Kept, words: &mut Words) -> Result<AnyArray, Fault>
     ensures { IfOk result (λ a. IsGood a) }
 {
@@ -116,7 +126,8 @@ pub fn read_binary_view(alloc: Global, kept: Kept, words: &mut Words) -> Result<
     Ok(AnyArray::BinaryView(BinaryViewArray::try_new(parts.views, parts.buffers, parts.validity)?))
 }
 
-/// Reads texts in views, written as byte strings are.
+/// Reads an array of texts in views, in the form of `read_binary_view`. The error is also `Parts`
+/// if a text is not UTF-8.
 pub fn read_text_view(alloc: Global, kept: Kept, words: &mut Words) -> Result<AnyArray, Fault>
     ensures { IfOk result (λ a. IsGood a) }
 {
@@ -124,7 +135,8 @@ pub fn read_text_view(alloc: Global, kept: Kept, words: &mut Words) -> Result<An
     Ok(AnyArray::Utf8View(Utf8ViewArray::try_new(parts.views, parts.buffers, parts.validity)?))
 }
 
-/// Reads byte strings of one size: the size, the count, the bytes, and the validity.
+/// Reads an array of byte strings of one size: the size, the number of strings, the bytes of all
+/// strings, and the validity.
 pub fn read_sized(alloc: Global, kept: Kept, words: &mut Words) -> Result<AnyArray, Fault>
     ensures { IfOk result (λ a. IsGood a) }
 {

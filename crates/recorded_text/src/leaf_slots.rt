@@ -1,8 +1,11 @@
 //! The number of leaf slots of arrays, computed from their parts.
 //!
-//! They are the greatest number of comparisons that equality may take: a slot for each row of an
-//! array of one level, those of all items for lists, of all fields for structs, and of the entry
-//! for each present row of a dictionary.
+//! Comparing arrays for equality takes at most one comparison for each leaf slot. An array of one
+//! level has one leaf slot per row, or none if it is a `NullArray`. A list has the leaf slots of
+//! its items, and a struct those of its fields. A present row of a dictionary array has the leaf
+//! slots of its entry, and a masked row has none.
+//!
+//! All sums saturate at the greatest `usize`.
 
 ghost use Rattle.polars_arrays_nested.specs.GoodParts.{IsGood};
 ghost use Rattle.polars_arrays_nested.specs.declared.any_array.AnyArray.{List, FixedSizeList};
@@ -17,7 +20,9 @@ use polars_arrays_nested::fixed_size_list::FixedSizeListArray;
 use polars_arrays_nested::list::ListArray;
 use polars_arrays_nested::struct_array::StructArray;
 
-/// Returns the number of leaf slots of the `n` rows from row `from` on.
+/// Returns the number of leaf slots of the `n` rows of an array from row `from` on. The error is
+/// `Case` if a window of lists between offsets or of keys is out of range, or if the index of an
+/// item exceeds the greatest `usize`.
 #[cycle(slots)]
 pub fn leaf_slots(array: &AnyArray, from: usize, n: usize) -> Result<usize, Fault>
     requires { IsGood array.now }
@@ -32,7 +37,8 @@ pub fn leaf_slots(array: &AnyArray, from: usize, n: usize) -> Result<usize, Faul
     }
 }
 
-// Counts the leaf slots of lists: those of the items between the first and the last offset.
+// Returns the number of leaf slots of the items of lists `from..from + n`, masked ones included.
+// The error is `Case` if there are no such lists.
 #[cycle(slots)]
 fn list_slots(array: &ListArray, from: usize, n: usize) -> Result<usize, Fault>
     requires { IsGood (List array.now) }
@@ -46,7 +52,8 @@ fn list_slots(array: &ListArray, from: usize, n: usize) -> Result<usize, Fault>
     leaf_slots(array.values(), first, last.saturating_sub(first))
 }
 
-// Counts the leaf slots of lists of one width: those of their items.
+// Returns the number of leaf slots of the items of lists `from..from + n` of one width, masked ones
+// included. The error is `Case` if an index of an item exceeds the greatest `usize`.
 #[cycle(slots)]
 fn fixed_list_slots(array: &FixedSizeListArray, from: usize, n: usize) -> Result<usize, Fault>
     requires { IsGood (FixedSizeList array.now) }
@@ -60,7 +67,7 @@ fn fixed_list_slots(array: &FixedSizeListArray, from: usize, n: usize) -> Result
     leaf_slots(array.values(), first, count)
 }
 
-// Counts the leaf slots of structs: those of all fields.
+// Returns the number of leaf slots of rows `from..from + n` of all columns.
 #[cycle(slots)]
 fn struct_slots(array: &StructArray, from: usize, n: usize) -> Result<usize, Fault>
     requires { IsGood (Struct array.now) }
@@ -72,7 +79,8 @@ fn struct_slots(array: &StructArray, from: usize, n: usize) -> Result<usize, Fau
     Ok(slots)
 }
 
-// Counts the leaf slots of a dictionary array: those of the entry of each present row.
+// Returns the number of leaf slots of the entries of the present rows in `from..from + n`. An entry
+// counts once for each of these rows. The error is `Case` if there are no such rows.
 #[cycle(slots)]
 fn dictionary_slots(array: &DictionaryArray, from: usize, n: usize) -> Result<usize, Fault>
     requires { IsGood (Dictionary array.now) }

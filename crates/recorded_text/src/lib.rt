@@ -1,9 +1,10 @@
-//! Values as text, for programs that check recorded cases: readers of arrays from the words of a
-//! line, and writers of bits, rows and leaf slots.
+//! Values as text, for programs that check recorded cases: functions that read arrays from the
+//! words of a line, and functions that write bits and rows as text or count leaf slots.
 //!
-//! An array is written as its first row, the number of rows, its kind, and the parts of the kind:
-//! `1 2 i32 3 7 8 9 b0:101` are the last two of three numbers, the second of them null. `nested`
-//! describes the parts of each kind, and `names` looks up names.
+//! An array is written as the index of its first row, its number of rows, its kind, and the parts
+//! of the kind. For example, `1 2 i32 3 7 8 9 b0:101` has the parts of the three numbers 7, 8 and
+//! 9, of which 8 is null. The array has two rows, from row 1 on: null and 9. `nested` describes the
+//! parts of each kind, and `names` looks up names.
 #![tactic(auto)]
 
 pub mod bits_text;

@@ -2,7 +2,7 @@
 
 use crate::fault::Fault;
 
-/// Returns the value of a name in a table, or `None` if the table does not have it.
+/// Returns the value in the first pair of `table` with this name, or `None` if no pair has it.
 pub fn find<T: Copy>(table: &[(&str, T)], name: &str) -> Option<T> {
     for (each, found) in table {
         if *each == name {
@@ -12,7 +12,8 @@ pub fn find<T: Copy>(table: &[(&str, T)], name: &str) -> Option<T> {
     None
 }
 
-/// Returns the value of a word in a table. The error is `Word`, if the table does not have it.
+/// Returns the value in the first pair of `table` with the name `word`. The error is `Word` if no
+/// pair has it.
 pub fn find_word<T: Copy>(table: &[(&str, T)], word: &str) -> Result<T, Fault> {
     find(table, word).ok_or(Fault::Word)
 }

@@ -1,4 +1,9 @@
-//! Readers of arrays of any kind.
+//! Functions that read arrays of any kind.
+//!
+//! In all of them, `kept` says whether the parts of an array own their elements or share them, and
+//! `depth` is the greatest number of levels of lists, structs and dictionaries. The errors of
+//! reading are `Word` if a word is missing or wrong, `Parts` if the parts make no array, `Depth` if
+//! the array is nested too deeply, and `Memory` if an allocation fails.
 
 ghost use Rattle.std.specs.Prelude.{IfOk};
 ghost use Rattle.std.specs.List.{All};
@@ -23,12 +28,14 @@ use polars_arrays_nested::list_offsets::ListOffsets;
 use polars_arrays_nested::struct_array::StructArray;
 use std::alloc::Global;
 
-/// The greatest depth of nested arrays. On a stack of 8 MiB this reader has room for more than
-/// twice this number of levels.
+/// The greatest number of levels of lists, structs and dictionaries in an array. On a stack of 8
+/// MiB this reader has room for more than twice this number of levels.
 const DEPTH: usize = 500;
 
-/// Reads an array. Its first word says whether its parts are shared. The error is `Depth`, if it is
-/// nested too deeply.
+/// Reads an array from the next words. If the first of them is `shared`, it is skipped, and the
+/// parts of the array share their elements with clones. The error is `Depth` if lists, structs and
+/// dictionaries are nested more than `DEPTH` levels deep, `Word` if a word is missing or wrong,
+/// `Parts` if the parts make no array, and `Memory` if an allocation fails.
 pub fn read_any(alloc: Global, words: &mut Words) -> Result<AnyArray, Fault>
     ensures { IfOk result (λ a. IsGood a) }
 {
@@ -36,8 +43,8 @@ pub fn read_any(alloc: Global, words: &mut Words) -> Result<AnyArray, Fault>
     read_array(alloc, kept, words, DEPTH)
 }
 
-// Reads an array: its first row, the number of rows, its kind, and the parts of the kind. It is
-// nested at most `depth` levels deep.
+// Reads an array: the index of its first row, its number of rows, its kind, and the parts of the
+// kind. The parts may have more rows than the array.
 #[cycle(read)]
 fn read_array(alloc: Global, kept: Kept, words: &mut Words, depth: usize) -> Result<AnyArray, Fault>
     ensures { IfOk result (λ a. IsGood a) }
@@ -47,7 +54,8 @@ fn read_array(alloc: Global, kept: Kept, words: &mut Words, depth: usize) -> Res
     slice_of(read_whole(alloc, kept, words, depth)?, at, n)
 }
 
-// Returns the `n` rows of an array from row `at` on. The error is `Word`, if it has fewer.
+// Returns the `n` rows of an array from row `at` on. The error is `Word` if the array does not have
+// these rows.
 fn slice_of(mut array: AnyArray, at: usize, n: usize) -> Result<AnyArray, Fault>
     requires { IsGood array }
     ensures { IfOk result (λ a. IsGood a) }
@@ -60,7 +68,7 @@ fn slice_of(mut array: AnyArray, at: usize, n: usize) -> Result<AnyArray, Fault>
     Ok(array)
 }
 
-// Reads an array before it is sliced.
+// Reads the kind and the parts of an array, and returns the array with all rows of the parts.
 #[cycle(read)]
 fn read_whole(alloc: Global, kept: Kept, words: &mut Words, depth: usize) -> Result<AnyArray, Fault>
     ensures { IfOk result (λ a. IsGood a) }
@@ -77,7 +85,8 @@ fn read_whole(alloc: Global, kept: Kept, words: &mut Words, depth: usize) -> Res
     }
 }
 
-// Reads an array that holds no arrays.
+// Reads the parts of an array of the kind that `kind` names, which is no list, struct or
+// dictionary.
 fn read_flat(alloc: Global, kept: Kept, words: &mut Words, kind: &str) -> Result<AnyArray, Fault>
     ensures { IfOk result (λ a. IsGood a) }
 {
@@ -95,7 +104,8 @@ fn read_flat(alloc: Global, kept: Kept, words: &mut Words, kind: &str) -> Result
     }
 }
 
-// Reads an array of numbers.
+// Reads an array of numbers of the type that `kind` names. The error is `Word` if `kind` names no
+// type of number.
 fn read_number_array(
     alloc: Global,
     kept: Kept,
@@ -119,8 +129,8 @@ fn read_number_array(
     }
 }
 
-// Reads an array of the nested kind that `kind` names (a list, a struct or a dictionary), whose
-// children may be nested up to `depth` levels deep.
+// Reads the parts of an array of lists or structs, or of a dictionary array, as `kind` says. The
+// arrays inside it may be nested up to `depth` levels deep.
 #[cycle(read)]
 fn read_holder(
     alloc: Global,
@@ -139,7 +149,8 @@ fn read_holder(
     }
 }
 
-// Reads lists: the offsets, the validity, and the items.
+// Reads an array of lists of the kind `kind` (`list` or `largelist`): the offsets, the validity,
+// and the array of the items.
 #[cycle(read)]
 fn read_list(
     alloc: Global,
@@ -159,7 +170,8 @@ fn read_list(
     )
 }
 
-// Creates lists of these parts.
+// Creates an array of lists from its offsets, items and validity. If `values` is an error, returns
+// that error. The error is `Parts` if the parts do not match.
 fn list_of(
     offsets: ListOffsets,
     values: Result<Box<AnyArray>, Fault>,
@@ -178,7 +190,7 @@ fn list_of(
 }
 
 /// Moves an array into a box, in which a nested array keeps its child. If `array` is an error,
-/// returns that error.
+/// returns that error. The error is `Memory` if the box can't be allocated.
 pub(crate) fn boxed(alloc: Global, array: Result<AnyArray, Fault>) -> Result<Box<AnyArray>, Fault>
     requires { IfOk array (λ a. IsGood a) }
     ensures { IfOk result (λ a. IsGood a.value) }
@@ -189,7 +201,7 @@ pub(crate) fn boxed(alloc: Global, array: Result<AnyArray, Fault>) -> Result<Box
     }
 }
 
-// Reads the offsets of lists.
+// Reads the offsets of lists: 64-bit numbers if `kind` is `largelist`, otherwise 32-bit numbers.
 fn read_offsets(
     alloc: Global,
     kept: Kept,
@@ -203,7 +215,8 @@ fn read_offsets(
     }
 }
 
-// Reads lists of one width: the width, the count, the validity, and the items.
+// Reads an array of lists of one width: the width, the number of lists, the validity, and the array
+// of the items.
 #[cycle(read)]
 fn read_fixed_list(
     alloc: Global,
@@ -220,15 +233,15 @@ fn read_fixed_list(
     Ok(AnyArray::FixedSizeList(FixedSizeListArray::try_new(width, len, values, validity)?))
 }
 
-// The columns of structs, and their names.
+// The columns of structs: the name and the array of each field, in the same order.
 #[derive(Drop)]
 struct Columns<'a> {
     names: Vec<&'a str>,
     values: Vec<AnyArray>,
 }
 
-// Reads structs: the count, the number of fields, the validity, and a name and an array for each
-// field.
+// Reads an array of structs: the number of structs, the number of fields, the validity, and a name
+// and an array for each field.
 #[cycle(read)]
 fn read_struct(
     alloc: Global,
@@ -249,7 +262,7 @@ fn read_struct(
     )
 }
 
-// Reads columns: a name and an array for each.
+// Reads `count` columns: a name and an array for each.
 #[cycle(read)]
 fn read_columns<'a>(
     alloc: Global,
@@ -269,7 +282,9 @@ fn read_columns<'a>(
     Ok(Columns { names, values })
 }
 
-// Creates structs of these columns.
+// Creates an array of `len` structs from their columns and validity. If `columns` is an error,
+// returns that error. The error is `Parts` if the parts do not match, and `Memory` if an allocation
+// fails.
 fn of_columns(
     alloc: Global,
     len: usize,
@@ -283,7 +298,8 @@ fn of_columns(
     struct_of(alloc, &names, len, values, validity)
 }
 
-/// Creates structs of columns with these names.
+/// Creates an array of `len` structs from the names and the arrays of the fields, and the validity.
+/// The error is `Parts` if the parts do not match, and `Memory` if an allocation fails.
 pub(crate) fn struct_of(
     alloc: Global,
     names: &[&str],
@@ -298,7 +314,8 @@ pub(crate) fn struct_of(
     Ok(AnyArray::Struct(StructArray::try_new(fields, len, values, validity)?))
 }
 
-// Creates a field for each column, with its name and type.
+// Creates a field for each column, with the column's name and type. Names or columns in excess of
+// the shorter slice are ignored. The error is `Memory` if an allocation fails.
 fn fields_of(alloc: Global, names: &[&str], columns: &[AnyArray]) -> Result<Vec<Field>, Fault> {
     let mut fields = Vec::new(alloc);
     for (name, column) in names.iter().zip(columns) {
@@ -307,14 +324,16 @@ fn fields_of(alloc: Global, names: &[&str], columns: &[AnyArray]) -> Result<Vec<
     Ok(fields)
 }
 
-/// Creates a field with a name and an array's type.
+/// Creates a field with this name and the type of `column`. The error is `Memory` if an allocation
+/// fails.
 pub fn field_of(alloc: Global, name: &str, column: &AnyArray) -> Result<Field, Fault> {
     let dtype = column.dtype(alloc)?;
     let name = name.to_string(alloc)?;
     Ok(Field { name, dtype })
 }
 
-// Reads a dictionary array: the type of its keys, the keys, their validity, and the entries.
+// Reads a dictionary array: the type of its keys, the keys with their validity, and the array of
+// the entries.
 #[cycle(read)]
 fn read_dictionary(
     alloc: Global,
@@ -328,7 +347,8 @@ fn read_dictionary(
     dictionary_of(keys, boxed(alloc, read_array(alloc, kept, words, depth)))
 }
 
-// Creates a dictionary array of these parts.
+// Creates a dictionary array from its keys and entries. If `values` is an error, returns that
+// error. The error is `Parts` if a key refers to no entry.
 fn dictionary_of(keys: DictKeys, values: Result<Box<AnyArray>, Fault>) -> Result<AnyArray, Fault>
     requires { IfOk values (λ a. IsGood a.value) }
     ensures { IfOk result (λ a. IsGood a) }
@@ -342,7 +362,8 @@ fn dictionary_of(keys: DictKeys, values: Result<Box<AnyArray>, Fault>) -> Result
     }
 }
 
-// Reads the keys of a dictionary array, of the type that the next word names.
+// Reads the keys of a dictionary array: the name of their type, and the numbers with their
+// validity. The error is `Word` if the name is not of an integer type of 8 to 64 bits.
 fn read_keys(alloc: Global, kept: Kept, words: &mut Words) -> Result<DictKeys, Fault> {
     match words.read()? {
         "i8" => Ok(DictKeys::Int8(read_integers(alloc, kept, words)?)),

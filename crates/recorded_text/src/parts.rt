@@ -1,4 +1,7 @@
-//! Readers of the parts of arrays.
+//! Functions that read the parts of arrays.
+//!
+//! In all of them, the error is `Word` if a word is missing or wrong, and `Memory` if an allocation
+//! fails.
 
 ghost use Rattle.std.specs.Prelude.{◌≡◌, ◌<◌, IfOk, IfSome};
 
@@ -12,7 +15,7 @@ use polars_arrays_views::view::View;
 use std::alloc::Global;
 use std::str::FromStr;
 
-/// Storage of the parts of an array.
+/// Says whether the parts of an array own their elements or share them.
 #[derive(Clone, Copy, PartialEq, Eq, Debug)]
 pub enum Kept {
     /// Each part owns its elements.
@@ -22,7 +25,8 @@ pub enum Kept {
 }
 
 impl Kept {
-    /// Reads how the parts of the next array are stored: shared if the word is `shared`.
+    /// Returns `Shared` and skips the next word if it is `shared`. Otherwise returns `Owned` and
+    /// skips no word.
     pub fn read(words: &mut Words) -> Kept {
         if words.take("shared") {
             Kept::Shared
@@ -31,7 +35,7 @@ impl Kept {
         }
     }
 
-    /// Returns a buffer, shared if its elements are to be.
+    /// Returns the buffer, converted to a shared one if `self` is `Shared`. The error is `Memory`.
     pub fn buffer<T: Copy>(self, alloc: Global, buffer: Buffer<T>) -> Result<Buffer<T>, Fault>
         ensures { IfOk result (λ kept. kept.items ≡ buffer.items) }
     {
@@ -41,7 +45,7 @@ impl Kept {
         }
     }
 
-    /// Returns bits, shared if they are to be.
+    /// Returns the bits, converted to shared ones if `self` is `Shared`. The error is `Memory`.
     pub fn bits(self, alloc: Global, bits: Bitmap) -> Result<Bitmap, Fault>
         ensures { IfOk result (λ kept. kept ≡ bits) }
     {
@@ -52,7 +56,9 @@ impl Kept {
     }
 }
 
-/// Reads bits from a word `b<at>:<0 and 1..>`: those from place `at` on.
+/// Reads bits from a word `b<at>:<digits>`, such as `b2:0110`. The digits are 0 or 1. Returns the
+/// bits without the first `at` ones. The error is `Word` if the word has another form or fewer than
+/// `at` digits.
 pub fn read_bits(alloc: Global, word: &str) -> Result<Bitmap, Fault> {
     let Some((at, digits)) = word.split_once(':') else {
         return Err(Fault::Word);
@@ -65,7 +71,7 @@ pub fn read_bits(alloc: Global, word: &str) -> Result<Bitmap, Fault> {
     from_place(Bitmap::from_bools(alloc, &bools), at)
 }
 
-/// Reads bits from digits.
+/// Converts the digits 0 and 1 to truth values. The error is `Word` for another character.
 fn read_bools(alloc: Global, digits: &str) -> Result<Vec<bool>, Fault> {
     let mut bools = Vec::new(alloc);
     for digit in digits.as_bytes() {
@@ -74,7 +80,8 @@ fn read_bools(alloc: Global, digits: &str) -> Result<Vec<bool>, Fault> {
     Ok(bools)
 }
 
-/// Returns the bits from place `at` on.
+/// Returns the bits from place `at` on. If `bits` is an error, returns it as a `Fault`. The error
+/// is `Word` if there are fewer than `at` bits.
 fn from_place(bits: Result<Bitmap, ComputeError>, at: usize) -> Result<Bitmap, Fault> {
     let mut bits = bits?;
     if at > bits.len() {
@@ -85,7 +92,7 @@ fn from_place(bits: Result<Bitmap, ComputeError>, at: usize) -> Result<Bitmap, F
     Ok(bits)
 }
 
-/// Reads a bit from a digit.
+/// Converts the character `0` or `1` to a truth value. The error is `Word` for another character.
 fn read_bit(digit: u8) -> Result<bool, Fault> {
     match digit {
         b'0' => Ok(false),
@@ -94,7 +101,7 @@ fn read_bit(digit: u8) -> Result<bool, Fault> {
     }
 }
 
-/// Reads a number from a word.
+/// Converts a word to a number. The error is `Word` if it is no number of the type `usize`.
 fn read_place(word: &str) -> Result<usize, Fault> {
     match word.parse() {
         Ok(place) => Ok(place),
@@ -102,7 +109,8 @@ fn read_place(word: &str) -> Result<usize, Fault> {
     }
 }
 
-/// Reads a validity: `-` for none, otherwise its bits.
+/// Reads a validity from the next word: `None` if it is `-`, otherwise the bits that it gives in
+/// the form of `read_bits`.
 pub fn read_validity(
     alloc: Global,
     kept: Kept,
@@ -115,12 +123,14 @@ pub fn read_validity(
     Ok(Some(read_kept(alloc, kept, word)?))
 }
 
-/// Reads bits from a word, shared if they are to be.
+/// Reads bits from `word` as `read_bits` does, and converts them to shared ones if `kept` is
+/// `Shared`.
 pub fn read_kept(alloc: Global, kept: Kept, word: &str) -> Result<Bitmap, Fault> {
     kept.bits(alloc, read_bits(alloc, word)?)
 }
 
-/// Returns the value of a hexadecimal digit.
+/// Returns the value of a hexadecimal digit, or `None` for another character. Capital letters are
+/// no digits here.
 fn digit_value(digit: u8) -> Option<u8>
     ensures { IfSome result (λ value. value < 16) }
 {
@@ -131,7 +141,7 @@ fn digit_value(digit: u8) -> Option<u8>
     }
 }
 
-/// Returns the byte of two hexadecimal digits.
+/// Returns the byte of two hexadecimal digits. The error is `Word` if one is no digit.
 fn byte_of(high: u8, low: u8) -> Result<u8, Fault> {
     let (Some(high), Some(low)) = (digit_value(high), digit_value(low)) else {
         return Err(Fault::Word);
@@ -139,7 +149,8 @@ fn byte_of(high: u8, low: u8) -> Result<u8, Fault> {
     Ok(high * 16 + low)
 }
 
-/// Reads bytes from a word `x<two digits for each byte>`.
+/// Reads bytes from a word: `x` and two hexadecimal digits for each byte. The error is `Word` if
+/// the word has another form.
 pub fn read_bytes(alloc: Global, word: &str) -> Result<Vec<u8>, Fault> {
     let Some(digits) = word.strip_prefix('x') else {
         return Err(Fault::Word);
@@ -155,7 +166,7 @@ pub fn read_bytes(alloc: Global, word: &str) -> Result<Vec<u8>, Fault> {
     Ok(bytes)
 }
 
-/// Reads a count, and that many numbers.
+/// Reads a count from the next word, and that many numbers from the words after it.
 pub fn read_number_list<N: NativeType + FromStr<Err: Drop>>(
     alloc: Global,
     words: &mut Words,
@@ -168,7 +179,7 @@ pub fn read_number_list<N: NativeType + FromStr<Err: Drop>>(
     Ok(numbers)
 }
 
-/// Reads a count, and that many numbers, into a buffer.
+/// Reads a count from the next word and that many numbers from the words after it, into a buffer.
 pub fn read_numbers<N: NativeType + FromStr<Err: Drop>>(
     alloc: Global,
     words: &mut Words,
@@ -177,7 +188,8 @@ pub fn read_numbers<N: NativeType + FromStr<Err: Drop>>(
     Ok(Buffer::from_vec(numbers))
 }
 
-/// Reads a count, and that many numbers, into a buffer that is shared if it is to be.
+/// Reads a count from the next word and that many numbers from the words after it, into a buffer
+/// that is shared if `kept` is `Shared`.
 pub(crate) fn read_kept_numbers<N: NativeType + FromStr<Err: Drop>>(
     alloc: Global,
     kept: Kept,
@@ -186,7 +198,8 @@ pub(crate) fn read_kept_numbers<N: NativeType + FromStr<Err: Drop>>(
     kept.buffer(alloc, read_numbers(alloc, words)?)
 }
 
-/// Reads a view from the sixteen bytes of a word.
+/// Reads a view from a word that gives sixteen bytes in the form of `read_bytes`. The error is
+/// `Word` if the word has another form or gives another number of bytes.
 pub fn read_view(alloc: Global, word: &str) -> Result<View, Fault> {
     let bytes = read_bytes(alloc, word)?;
     match <[u8; 16]>::try_from(bytes.as_slice()) {
@@ -195,7 +208,7 @@ pub fn read_view(alloc: Global, word: &str) -> Result<View, Fault> {
     }
 }
 
-/// Reads a count, and that many views.
+/// Reads a count from the next word and that many views from the words after it, into a buffer.
 pub fn read_views(alloc: Global, words: &mut Words) -> Result<Buffer<View>, Fault> {
     let count: usize = words.read_number()?;
     let mut views = Vec::new(alloc);
@@ -205,13 +218,14 @@ pub fn read_views(alloc: Global, words: &mut Words) -> Result<Buffer<View>, Faul
     Ok(Buffer::from_vec(views))
 }
 
-/// Reads bytes from the next word, into a buffer.
+/// Reads bytes from the next word, into a buffer that is shared if `kept` is `Shared`.
 pub fn read_byte_buffer(alloc: Global, kept: Kept, words: &mut Words) -> Result<Buffer<u8>, Fault> {
     let bytes = read_bytes(alloc, words.read()?)?;
     kept.buffer(alloc, Buffer::from_vec(bytes))
 }
 
-/// Reads a count, and that many buffers.
+/// Reads a count from the next word and that many byte strings from the words after it, each into a
+/// buffer of its own. The buffers are shared if `kept` is `Shared`.
 pub fn read_buffers(
     alloc: Global,
     kept: Kept,

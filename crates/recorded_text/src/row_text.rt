@@ -1,8 +1,12 @@
-//! Rows as text, read from the parts of arrays.
+//! Rows of arrays as text.
 //!
 //! A row is `null`, a number, `true` or `false`, `x` and the hexadecimal digits of its bytes, the
 //! items of a list between brackets, the fields of a struct between braces, or the entry of a
-//! dictionary between `<` and `>`. A key to a null entry is `null` too.
+//! dictionary between `<` and `>`. A row of a dictionary array is also `null` if its key refers to
+//! a null entry.
+//!
+//! In all functions, the error is `Case` if a stored value to be written does not exist, and
+//! `Memory` if an allocation fails.
 
 ghost use Rattle.polars_arrays_nested.specs.GoodParts.{IsGood};
 ghost use Rattle.polars_arrays_nested.specs.declared.any_array.AnyArray.{List, FixedSizeList};
@@ -24,6 +28,7 @@ use polars_arrays_numbers::native_type::NativeType;
 use std::alloc::Global;
 use std::fmt::Display;
 
+// Appends `true` or `false`: the stored value at place `i`, even if row `i` is null.
 fn push_truth(text: &mut String, array: &BooleanArray, i: usize) -> Result<(), Fault> {
     match array.values().get(i) {
         Some(true) => text.push_str("true")?,
@@ -33,6 +38,7 @@ fn push_truth(text: &mut String, array: &BooleanArray, i: usize) -> Result<(), F
     Ok(())
 }
 
+// Appends the stored number at place `i`, even if row `i` is null.
 fn push_number<T: NativeType + Display>(
     text: &mut String,
     array: &PrimitiveArray<T>,
@@ -45,6 +51,8 @@ fn push_number<T: NativeType + Display>(
     Ok(())
 }
 
+// Appends the stored byte string at place `i`, even if row `i` is null: `x` and its hexadecimal
+// digits.
 fn push_string<A: ByteRows>(text: &mut String, array: &A, i: usize) -> Result<(), Fault> {
     if i >= array.count() {
         return Err(Fault::Case);
@@ -52,7 +60,8 @@ fn push_string<A: ByteRows>(text: &mut String, array: &A, i: usize) -> Result<()
     push_bytes(text, array.bytes(i))
 }
 
-// Appends the stored value at place `i` of an array of one level.
+// Appends the stored value at place `i` of an array of truth values, numbers or byte strings, even
+// if row `i` is null. The error is `Case` for an array of another kind.
 fn push_stored(text: &mut String, array: &AnyArray, i: usize) -> Result<(), Fault> {
     match array {
         AnyArray::Boolean(array) => push_truth(text, array, i),
@@ -77,8 +86,8 @@ fn push_stored(text: &mut String, array: &AnyArray, i: usize) -> Result<(), Faul
     }
 }
 
-// Returns whether row `i` of an array is null: by its validity, as a row of a null array, or as a
-// key to a null entry. A row that does not exist is null.
+// Returns whether row `i` is null. It is null if its bit of the validity is 0, if the array is a
+// `NullArray`, or if its key refers to a null entry. Returns `true` also if there is no row `i`.
 fn is_null_row(array: &AnyArray, i: usize) -> bool
     requires { IsGood array.now }
 {
@@ -92,7 +101,7 @@ fn is_null_row(array: &AnyArray, i: usize) -> bool
     }
 }
 
-/// Appends row `i` of an array.
+/// Appends row `i` of an array to `text`. Appends `null` if there is no row `i`.
 #[cycle(walk)]
 pub fn push_row(alloc: Global, text: &mut String, array: &AnyArray, i: usize) -> Result<(), Fault>
     requires { IsGood array.now }
@@ -110,7 +119,8 @@ pub fn push_row(alloc: Global, text: &mut String, array: &AnyArray, i: usize) ->
     }
 }
 
-// Appends list `i`.
+// Appends list `i`: its items, separated by commas, between brackets. The list is written even if
+// it is null.
 #[cycle(walk)]
 fn push_list(alloc: Global, text: &mut String, array: &ListArray, i: usize) -> Result<(), Fault>
     requires { IsGood (List array.now) }
@@ -128,7 +138,7 @@ fn push_list(alloc: Global, text: &mut String, array: &ListArray, i: usize) -> R
     )
 }
 
-// Appends list `i` of one width.
+// Appends list `i` of an array of lists of one width, in the form of `push_list`.
 #[cycle(walk)]
 fn push_fixed_list(
     alloc: Global,
@@ -145,7 +155,7 @@ fn push_fixed_list(
     push_rows(alloc, text, array.values(), from, to)
 }
 
-// Appends the rows from row `from` up to row `to`, between brackets.
+// Appends the rows `from..to` of an array, separated by commas, between brackets.
 #[cycle(walk)]
 fn push_rows(
     alloc: Global,
@@ -167,7 +177,8 @@ fn push_rows(
     Ok(())
 }
 
-// Appends struct `i`.
+// Appends struct `i`: row `i` of each column, separated by commas, between braces. The struct is
+// written even if it is null.
 #[cycle(walk)]
 fn push_struct(alloc: Global, text: &mut String, array: &StructArray, i: usize) -> Result<(), Fault>
     requires { IsGood (Struct array.now) }
@@ -183,7 +194,7 @@ fn push_struct(alloc: Global, text: &mut String, array: &StructArray, i: usize) 
     Ok(())
 }
 
-// Appends the entry that key `i` names, which is not null.
+// Appends the entry to which key `i` refers, between `<` and `>`.
 #[cycle(walk)]
 fn push_entry(
     alloc: Global,
@@ -202,7 +213,7 @@ fn push_entry(
     Ok(())
 }
 
-/// Returns the rows of an array, separated by spaces.
+/// Returns all rows of an array as text, separated by spaces.
 pub fn write_rows(alloc: Global, array: &AnyArray) -> Result<String, Fault>
     requires { IsGood array.now }
 {
@@ -216,7 +227,7 @@ pub fn write_rows(alloc: Global, array: &AnyArray) -> Result<String, Fault>
     Ok(text)
 }
 
-/// Returns the rows of an array, separated by spaces, and drops the array.
+/// Returns all rows of an array as text, separated by spaces, and drops the array.
 pub fn write_made(alloc: Global, array: AnyArray) -> Result<String, Fault>
     requires { IsGood array }
 {

@@ -16,7 +16,7 @@ struct NamedArray {
     array: AnyArray,
 }
 
-/// The arrays of a case, each with a name of its own.
+/// The arrays of a case. No two of them have the same name.
 #[derive(Drop)]
 pub struct Store {
     arrays: Vec<NamedArray>,
@@ -39,7 +39,8 @@ impl Store {
         self.arrays.clear();
     }
 
-    /// Adds an array with a name. The error is `Case`, if an array has the name, or else `Memory`.
+    /// Adds an array under a name. If there is an error, the array is dropped. The error is `Case`
+    /// if the store already has an array with this name, and `Memory` if an allocation fails.
     pub fn add(&mut self, alloc: Global, name: &str, array: AnyArray) -> Result<(), Fault>
         requires arrays { HasGoodArrays self.old }
         requires array { IsGood array }
@@ -54,7 +55,8 @@ impl Store {
         }
     }
 
-    // Copies a name that no array has. The error is `Case`, if one has it, or else `Memory`.
+    // Returns a copy of `name`. The error is `Case` if an array of the store already has this name,
+    // and `Memory` if an allocation fails.
     fn new_name(&self, alloc: Global, name: &str) -> Result<String, Fault>
         requires { HasGoodArrays self.now }
     {
@@ -64,7 +66,7 @@ impl Store {
         Ok(name.to_string(alloc)?)
     }
 
-    // Appends an array with its name.
+    // Appends an array with its name. Doesn't check whether the name is new. The error is `Memory`.
     fn push(&mut self, named: NamedArray) -> Result<(), Fault>
         requires arrays { HasGoodArrays self.old }
         requires array { IsGood named.array }
@@ -74,7 +76,7 @@ impl Store {
         Ok(())
     }
 
-    /// Returns the array of a name. The error is `Case`, if there is none.
+    /// Returns the array with this name. The error is `Case` if there is none.
     pub fn array(&self, name: &str) -> Result<&AnyArray, Fault>
         requires { HasGoodArrays self.now }
         ensures { IfOk result (λ array. IsGood array.now) }
@@ -87,7 +89,8 @@ impl Store {
         Err(Fault::Case)
     }
 
-    /// Returns the array that the next word names.
+    /// Reads a name from the next word, and returns the array with this name. The error is `Word`
+    /// if no word is left, and `Case` if no array has the name.
     pub fn read(&self, words: &mut Words) -> Result<&AnyArray, Fault>
         requires { HasGoodArrays self.now }
         ensures { IfOk result (λ array. IsGood array.now) }

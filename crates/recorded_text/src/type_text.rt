@@ -1,20 +1,21 @@
 //! Types of arrays as text.
 //!
-//! A type has the name of the array's kind; the types that it holds stand between parentheses:
-//! `list(i32)`, `fixedlist(3 i32)`, `struct(a list(i32), b dict(i8 utf8))`, `fixedbinary(2)`.
+//! The text of a type is the name of the array's kind. In parentheses follow its size, width or
+//! type of keys, if it has one, and the types that it contains: `list(i32)`, `fixedlist(3 i32)`,
+//! `struct(a list(i32), b dict(i8 utf8))`, `fixedbinary(2)`.
 
 use crate::fault::Fault;
 use polars_arrays_flat::data_type::{ArrowDataType, Field, IntegerType};
 use std::alloc::Global;
 
-/// Returns the text of a type.
+/// Returns the text of a type. The error is `Memory`.
 pub fn write_type(alloc: Global, dtype: &ArrowDataType) -> Result<String, Fault> {
     let mut text = String::new(alloc);
     push_type(&mut text, dtype)?;
     Ok(text)
 }
 
-/// Returns the name of a type of keys.
+/// Returns the name of the type of a dictionary's keys, such as `i8`.
 pub fn key_name(keys: IntegerType) -> &'static str {
     match keys {
         IntegerType::Int8 => "i8",
@@ -28,8 +29,9 @@ pub fn key_name(keys: IntegerType) -> &'static str {
     }
 }
 
-// Returns the name of a type without a number, with the opening parenthesis if it holds other
-// types.
+// Returns the name of a type, with an opening parenthesis if the type contains other types. Returns
+// `None` for a type with a size, a width or a type of keys: `FixedSizeBinary`, `FixedSizeList` and
+// `Dictionary`.
 fn plain_name(dtype: &ArrowDataType) -> Option<&'static str> {
     let name = match dtype {
         ArrowDataType::Null => "null",
@@ -72,7 +74,8 @@ fn push_type(text: &mut String, dtype: &ArrowDataType) -> Result<(), Fault> {
     }
 }
 
-// Appends the text before the types that a type holds, or all of it if it holds none.
+// Appends the text of a type up to the types that it contains, or all of the text if it contains
+// none.
 fn push_head(text: &mut String, dtype: &ArrowDataType) -> Result<(), Fault> {
     match dtype {
         ArrowDataType::FixedSizeBinary(size) => write!(text, "fixedbinary({size})")?,
@@ -83,7 +86,7 @@ fn push_head(text: &mut String, dtype: &ArrowDataType) -> Result<(), Fault> {
     Ok(())
 }
 
-// Appends the name of a type without a number.
+// Appends the name that `plain_name` returns for a type. The error is `Case` if it returns `None`.
 fn push_plain(text: &mut String, dtype: &ArrowDataType) -> Result<(), Fault> {
     match plain_name(dtype) {
         Some(name) => text.push_str(name)?,
@@ -92,7 +95,7 @@ fn push_plain(text: &mut String, dtype: &ArrowDataType) -> Result<(), Fault> {
     Ok(())
 }
 
-// Appends the only type that another one holds.
+// Appends the text of the only type that another type contains, and a closing parenthesis.
 #[cycle(types)]
 fn push_held(text: &mut String, held: &ArrowDataType) -> Result<(), Fault> {
     push_type(text, held)?;
@@ -100,7 +103,7 @@ fn push_held(text: &mut String, held: &ArrowDataType) -> Result<(), Fault> {
     Ok(())
 }
 
-// Appends the fields of a struct.
+// Appends the fields of a struct, separated by commas, and a closing parenthesis.
 #[cycle(types)]
 fn push_fields(text: &mut String, fields: &[Field]) -> Result<(), Fault> {
     for (i, field) in fields.iter().enumerate() {
@@ -113,7 +116,7 @@ fn push_fields(text: &mut String, fields: &[Field]) -> Result<(), Fault> {
     Ok(())
 }
 
-// Appends the name and the type of a field.
+// Appends the name of a field, a space, and the text of its type.
 #[cycle(types)]
 fn push_field(text: &mut String, field: &Field) -> Result<(), Fault> {
     text.push_str(&field.name)?;

@@ -11,11 +11,12 @@ pub struct Words<'a> {
 }
 
 impl<'a> Words<'a> {
+    /// Creates a reader that starts at the first word.
     pub fn new(words: &'a [&'a str]) -> Words<'a> {
         Words { words, next: 0 }
     }
 
-    /// Returns the next word.
+    /// Returns the next word, and moves on. The error is `Word` if no word is left.
     pub fn read(&mut self) -> Result<&'a str, Fault> {
         match self.words.get(self.next) {
             Some(word) => {
@@ -26,7 +27,8 @@ impl<'a> Words<'a> {
         }
     }
 
-    /// Reads a number from the next word.
+    /// Reads the next word and converts it to a number. The error is `Word` if no word is left, or
+    /// if the word is no number of the type `N`.
     pub fn read_number<N: FromStr<Err: Drop>>(&mut self) -> Result<N, Fault> {
         match self.read()?.parse() {
             Ok(number) => Ok(number),
@@ -34,7 +36,8 @@ impl<'a> Words<'a> {
         }
     }
 
-    /// Reads the next word if it is `word`, and returns whether it was.
+    /// Skips the next word and returns `true` if it is `word`. Otherwise skips nothing and returns
+    /// `false`.
     pub fn take(&mut self, word: &str) -> bool {
         match self.words.get(self.next) {
             Some(next) if *next == word => {

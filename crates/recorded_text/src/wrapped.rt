@@ -1,8 +1,9 @@
-//! Arrays that are nested many levels deep, made by a loop: reading them takes no stack for the
-//! levels.
+//! Arrays that are nested many levels deep. A loop wraps an array in one level after the other, so
+//! reading them takes no stack for the levels.
 //!
-//! A level has a row for each row of the array that it holds: a list of that row alone, between
-//! offsets or of width 1; a struct with that row in its only field `f`; or a key that names it.
+//! A level is an array with a row for each row of the array that it wraps. Its kind is `list` or
+//! `fixedlist` for lists of one row each, `struct` for structs with the row in their only field
+//! `f`, or `dict` for keys that refer to the row.
 
 ghost use Rattle.std.specs.Prelude.{IfOk};
 ghost use Rattle.std.specs.List.{All};
@@ -21,15 +22,17 @@ use polars_arrays_nested::list::ListArray;
 use polars_arrays_nested::list_offsets::ListOffsets;
 use std::alloc::Global;
 
-/// Greatest number of levels of a line for the usual stack of 8 MiB.
+/// The greatest number of levels in a line for a stack of 8 MiB, the usual size.
 pub const LEVELS: usize = 1000;
 
-/// Greatest number of levels of a line that names a larger stack.
+/// The greatest number of levels in a line that may need a larger stack than 8 MiB.
 pub const FAR_LEVELS: usize = 100_000;
 
-/// Reads an array nested in others: the number of levels, their kinds from the outermost on,
-/// separated by commas and repeated as needed, and the array. If there are more than `most` levels,
-/// the error is `Depth`.
+/// Reads a number of levels, a word with the kinds of the levels separated by commas, and an array,
+/// and wraps the array in the levels. The first kind is that of the outermost level. If there are
+/// fewer kinds than levels, they are repeated. The error is `Depth` if there are more than `most`
+/// levels, `Word` if a word is missing or wrong, or is a kind of no level, and otherwise as in
+/// `read_any`.
 pub fn read_wrapped(alloc: Global, words: &mut Words, most: usize) -> Result<AnyArray, Fault>
     ensures { IfOk result (λ a. IsGood a) }
 {
@@ -38,7 +41,8 @@ pub fn read_wrapped(alloc: Global, words: &mut Words, most: usize) -> Result<Any
     wrap_all(alloc, levels, &kinds, read_any(alloc, words))
 }
 
-// Reads the number of levels, at most `most`.
+// Reads a number of levels. The error is `Depth` if it is greater than `most`, and `Word` if the
+// next word is no number.
 fn read_levels(words: &mut Words, most: usize) -> Result<usize, Fault> {
     let levels: usize = words.read_number()?;
     if levels > most {
@@ -47,12 +51,13 @@ fn read_levels(words: &mut Words, most: usize) -> Result<usize, Fault> {
     Ok(levels)
 }
 
-// Reads the kinds of levels, separated by commas.
+// Reads a word, and returns its parts between commas: the kinds of the levels.
 fn read_kinds<'a>(alloc: Global, words: &mut Words<'a>) -> Result<Vec<&'a str>, Fault> {
     Ok(words.read()?.split(',').collect(alloc)?)
 }
 
-// Wraps an array in `levels` levels of these kinds.
+// Wraps an array in `levels` levels. The kinds are repeated from the outermost level on. If `array`
+// is an error, returns that error.
 fn wrap_all(
     alloc: Global,
     levels: usize,
@@ -69,7 +74,8 @@ fn wrap_all(
     Ok(Box::into_inner(wrapped))
 }
 
-// Returns the kind of a level, or an empty name if there are no kinds.
+// Returns the kind of level `level`, counted from the outermost, with the kinds repeated. Returns
+// an empty name if `kinds` is empty.
 fn kind_at<'a>(kinds: &[&'a str], level: usize) -> &'a str {
     if kinds.is_empty() {
         return "";
@@ -77,7 +83,8 @@ fn kind_at<'a>(kinds: &[&'a str], level: usize) -> &'a str {
     kinds[level % kinds.len()]
 }
 
-// Wraps an array in one level of a kind.
+// Wraps an array in one level of the kind `kind`. The error is `Word` if `kind` is no kind of a
+// level.
 fn wrap(alloc: Global, kind: &str, array: Box<AnyArray>) -> Result<AnyArray, Fault>
     requires { IsGood array.value }
     ensures { IfOk result (λ a. IsGood a) }
@@ -91,7 +98,8 @@ fn wrap(alloc: Global, kind: &str, array: Box<AnyArray>) -> Result<AnyArray, Fau
     }
 }
 
-// Wraps each row in a list.
+// Creates an array of lists, each with one row of `items`. The error is `Word` if the number of
+// rows exceeds the greatest `i32`.
 fn in_lists(alloc: Global, items: Box<AnyArray>) -> Result<AnyArray, Fault>
     requires { IsGood items.value }
     ensures { IfOk result (λ a. IsGood a) }
@@ -100,7 +108,7 @@ fn in_lists(alloc: Global, items: Box<AnyArray>) -> Result<AnyArray, Fault>
     Ok(AnyArray::List(ListArray::try_new(ListOffsets::Small(offsets), items, None)?))
 }
 
-// Wraps each row in a list of width 1.
+// Creates an array of lists of width 1, each with one row of `items`.
 fn in_fixed_lists(items: Box<AnyArray>) -> Result<AnyArray, Fault>
     requires { IsGood items.value }
     ensures { IfOk result (λ a. IsGood a) }
@@ -109,7 +117,7 @@ fn in_fixed_lists(items: Box<AnyArray>) -> Result<AnyArray, Fault>
     Ok(AnyArray::FixedSizeList(FixedSizeListArray::try_new(1, len, items, None)?))
 }
 
-// Wraps each row in a struct of one field.
+// Creates an array of structs with one field `f`, the column `column`.
 fn in_structs(alloc: Global, column: Box<AnyArray>) -> Result<AnyArray, Fault>
     requires { IsGood column.value }
     ensures { IfOk result (λ a. IsGood a) }
@@ -119,7 +127,7 @@ fn in_structs(alloc: Global, column: Box<AnyArray>) -> Result<AnyArray, Fault>
     struct_of(alloc, &["f"], len, columns, None)
 }
 
-// Creates a list of one column.
+// Creates a vector that has only this column. The error is `Memory`.
 fn only_column(alloc: Global, column: AnyArray) -> Result<Vec<AnyArray>, Fault>
     requires { IsGood column }
     ensures { IfOk result (λ columns. All IsGood columns.items) }
@@ -129,7 +137,8 @@ fn only_column(alloc: Global, column: AnyArray) -> Result<Vec<AnyArray>, Fault>
     Ok(columns)
 }
 
-// Creates a dictionary array whose keys name each entry once.
+// Creates a dictionary array in which row `i` has the key `i`, so each entry occurs once. The error
+// is `Word` if a key exceeds the greatest `i32`.
 fn in_dictionary(alloc: Global, entries: Box<AnyArray>) -> Result<AnyArray, Fault>
     requires { IsGood entries.value }
     ensures { IfOk result (λ a. IsGood a) }
@@ -138,13 +147,15 @@ fn in_dictionary(alloc: Global, entries: Box<AnyArray>) -> Result<AnyArray, Faul
     Ok(AnyArray::Dictionary(DictionaryArray::try_new(keys, entries)?))
 }
 
-// Creates keys that name the first `count` entries.
+// Creates the keys `0..count`. The error is `Word` if a key exceeds the greatest `i32`, and
+// `Memory` if an allocation fails.
 fn place_keys(alloc: Global, count: usize) -> Result<DictKeys, Fault> {
     let places = places(alloc, count)?;
     Ok(DictKeys::Int32(PrimitiveArray::try_new(places, None)?))
 }
 
-// Creates the first `count` numbers, from 0 on.
+// Creates the numbers `0..count`. The error is `Word` if one exceeds the greatest `i32`, and
+// `Memory` if an allocation fails.
 fn places(alloc: Global, count: usize) -> Result<Buffer<i32>, Fault> {
     let mut places = Vec::new(alloc);
     for place in 0..count {
@@ -153,7 +164,7 @@ fn places(alloc: Global, count: usize) -> Result<Buffer<i32>, Fault> {
     Ok(Buffer::from_vec(places))
 }
 
-// Converts a place to a number of 32 bits.
+// Converts a place to an `i32`. The error is `Word` if it exceeds the greatest `i32`.
 fn place_of(place: usize) -> Result<i32, Fault> {
     match i32::try_from(place) {
         Ok(place) => Ok(place),
