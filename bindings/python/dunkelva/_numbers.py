@@ -74,7 +74,7 @@ def _rows_of(value: object) -> Column:
 
 def is_one_value(value: object) -> bool:
     """Says whether an argument is one value for all rows, and no column."""
-    return not any(hasattr(value, name) for name in (
+    return isinstance(value, (str, bytes)) or not any(hasattr(value, name) for name in (
         "__len__", "__arrow_c_array__", "__arrow_c_stream__", "__dataframe__"))
 
 

@@ -268,7 +268,8 @@ impl<'a, L: ByteRows, E: ByteComparison> TruthValues for StringsOnBlock<'a, L, E
     #[inline(always)]
     fn value(&self, i: usize) -> bool {
         let (left, n) = self.left.bytes_on(i);
-        self.comparison.compare_beginnings(left, n, self.block, self.m)
+        self.comparison
+            .compare_beginnings(left, n, self.block, self.m)
     }
 
     #[inline(always)]
