@@ -137,10 +137,10 @@ fn answered_beside(arithmetic: Arithmetic, side: Side, zero: bool) -> Answered
     }
 }
 
-/// Calculates the result for each pair of rows of two columns, and writes it into `out`. Returns a
-/// bit for each row, 1 if the result is present. A result is null if one of the two rows is null,
-/// or if a number is divided by 0; an arbitrary number is then written. The only error is `Memory`,
-/// and `out` is then unchanged.
+/// Applies the operation `arithmetic` to each pair of rows of two columns, and writes the results
+/// into `out`. Returns a bit for each row, 1 if the result is present. A result is null if one of
+/// the two rows is null, or if a number is divided by 0; an arbitrary number is then written. The
+/// only error is `Memory`, and `out` is then unchanged.
 pub fn calculate<T: PlNumArithmetic>(
     alloc: Global,
     arithmetic: Arithmetic,
@@ -162,10 +162,10 @@ pub fn calculate<T: PlNumArithmetic>(
     Ok(present)
 }
 
-/// Calculates the result for each row of a column and the constant `number`, which is on side
-/// `side` of the operation, and writes it into `out`. Returns a bit for each row, 1 if the result
-/// is present. A result is null if the row is null, or if a number is divided by 0; an arbitrary
-/// number is then written. The only error is `Memory`, and `out` is then unchanged.
+/// Applies the operation `arithmetic` to each row of a column and the constant `number`, which is
+/// the operand on side `side`. Writes the results into `out`. Returns a bit for each row, 1 if the
+/// result is present. A result is null if the row is null, or if a number is divided by 0; an
+/// arbitrary number is then written. The only error is `Memory`, and `out` is then unchanged.
 pub fn calculate_number<T: PlNumArithmetic>(
     alloc: Global,
     arithmetic: Arithmetic,

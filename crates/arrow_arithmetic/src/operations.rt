@@ -13,8 +13,8 @@ pub(crate) trait NumberOperation<T: NativeType> {
     // The operation on integers that `apply` computes in type `T`.
     ghost meaning: { Operation };
 
-    /// Returns the result wrapped to the type, or 0 if the operation has none, as in a division by
-    /// 0.
+    /// Returns the result for `left` and `right`, wrapped to type `T`. Returns 0 if there is no
+    /// result, as in a division by 0.
     fn apply(&self, left: T, right: T) -> T
         ensures { Gives T.value T.low (bit_len T.width) meaning left right result };
 }

@@ -23,8 +23,8 @@ pub(crate) enum Answered {
     Nothing,
 }
 
-// Returns a bit for each number of `values`, 1 if the operation has a result for it. The only error
-// is `Memory`.
+// Returns a bit for each number of `values`, 1 if it is one of the numbers `answered`, for which
+// the operation has a result. The only error is `Memory`.
 fn answered_bits<T: NativeType + Zero>(
     alloc: Global,
     answered: Answered,
@@ -40,8 +40,8 @@ fn answered_bits<T: NativeType + Zero>(
     }
 }
 
-/// Returns a bit for each row of a column, 1 if the row is present and the operation has a result
-/// for its number. The only error is `Memory`.
+/// Returns a bit for each row of a column, 1 if the row is present and its number is one of the
+/// numbers `answered`, for which the operation has a result. The only error is `Memory`.
 pub(crate) fn present_rows<T: NativeType + Zero>(
     alloc: Global,
     answered: Answered,
@@ -57,8 +57,8 @@ pub(crate) fn present_rows<T: NativeType + Zero>(
     Ok(bits.freeze())
 }
 
-/// Returns a bit for each pair of rows, 1 if both rows are present and the operation has a result
-/// for the right number. The only error is `Memory`.
+/// Returns a bit for each pair of rows, 1 if both rows are present and the right number is one of
+/// the numbers `answered`, for which the operation has a result. The only error is `Memory`.
 pub(crate) fn present_pairs<T: NativeType + Zero>(
     alloc: Global,
     answered: Answered,

@@ -111,8 +111,8 @@ fn write_function<T: NativeType, F: NumberFunction<T> + Drop>(
     write(&Each { values, function }, out);
 }
 
-/// Writes the result of an operation for each pair of numbers of two slices into `out`, or 0 if
-/// there is no result.
+/// Applies the operation `arithmetic` to each pair of numbers of two slices, and writes the results
+/// into `out`. If there is no result, 0 is written.
 pub(crate) fn write_pairs<T: PlNumArithmetic>(
     arithmetic: Arithmetic,
     left: &[T],
@@ -134,8 +134,8 @@ pub(crate) fn write_pairs<T: PlNumArithmetic>(
     }
 }
 
-// Writes the result of an operation for each number and the constant `number`, which is on side
-// `side`, into `out`, or 0 if there is no result.
+// Applies the operation `operation` to each of `values` and the constant `number`, which is the
+// operand on side `side`. Writes the results into `out`. If there is no result, 0 is written.
 fn write_placed<T: PlNumArithmetic, O: NumberOperation<T> + Drop>(
     operation: O,
     side: Side,
@@ -159,8 +159,8 @@ fn write_placed<T: PlNumArithmetic, O: NumberOperation<T> + Drop>(
     }
 }
 
-/// Writes the result of an operation for each number and the constant `number`, which is on side
-/// `side`, into `out`, or 0 if there is no result.
+/// Applies the operation `arithmetic` to each of `values` and the constant `number`, which is the
+/// operand on side `side`. Writes the results into `out`. If there is no result, 0 is written.
 pub(crate) fn write_beside<T: PlNumArithmetic>(
     arithmetic: Arithmetic,
     side: Side,
@@ -182,7 +182,7 @@ pub(crate) fn write_beside<T: PlNumArithmetic>(
     }
 }
 
-/// Writes the result of a function for each number into `out`.
+/// Applies the function `sign` to each of `values`, and writes the results into `out`.
 pub(crate) fn write_signs<T: PlNumArithmetic>(sign: Sign, values: &[T], out: &mut [T])
     requires { length out.old ≡ length values.now }
     ensures { map T.value out.new ≡ map (λ x. wrapped T.low (bit_len T.width)

@@ -98,8 +98,8 @@ fn take_fields(
     Ok(fields)
 }
 
-/// Pops the `count` children of an array and their names from two stacks. Fails with `Parts` if
-/// there are fewer arrays, and with `Memory` if an allocation fails.
+/// Pops `count` child arrays from `stack`, and their names from `names`. Returns them with their
+/// types. Fails with `Parts` if `stack` has fewer arrays, and with `Memory` if an allocation fails.
 fn take_inside(
     alloc: Global,
     count: usize,
@@ -131,8 +131,9 @@ fn take_shape(shapes: &mut Vec<Shape>) -> Result<Shape, Refused>
     }
 }
 
-/// Pops the last shape and its `count` child arrays, and returns the array built of them. Fails
-/// with `Parts` if they make no array, and with `Memory` if an allocation fails.
+/// Pops a shape from `shapes`, `count` child arrays from `stack`, and their names from `names`.
+/// Returns the array that is built of them. Fails with `Parts` if they make no array, and with
+/// `Memory` if an allocation fails.
 fn filled(
     alloc: Global,
     count: usize,

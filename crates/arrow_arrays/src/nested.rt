@@ -97,8 +97,8 @@ fn entries(alloc: Global, keys: DictKeys, items: AnyArray) -> Result<AnyArray, R
     Ok(AnyArray::Dictionary(array))
 }
 
-/// Builds a struct array with `rows` rows and the child arrays `inside`. Fails with `Parts` if they
-/// make no array, and with `Memory` if an allocation fails.
+/// Builds a struct array with `rows` rows and the child arrays `inside`. Fails with `Parts` if a
+/// child array does not have `rows` rows, or the validity does not have one bit for each row.
 fn structs(rows: usize, validity: Option<Bitmap>, inside: Inside) -> Result<AnyArray, Refused>
     requires good { All IsGood inside.columns.items }
     requires typed { AreTyped inside.fields.items inside.columns.items }

@@ -21,8 +21,8 @@ use polars_arrays_nested::dict_keys::DictKeys;
 use polars_arrays_nested::list_offsets::ListOffsets;
 use std::alloc::Global;
 
-// Makes the shape of an array without children: the variant `$kind` of `AnyArray`, unless `$array`
-// is an error.
+// Makes the shape of an array without children, which is the variant `$kind` of `AnyArray`. If
+// `$array` is an error, gives this error.
 macro_rules! leaf {
     ($kind:ident, $array:expr) => {
         match $array {
@@ -32,8 +32,8 @@ macro_rules! leaf {
     };
 }
 
-// Makes the shape of a dictionary, whose keys are the variant `$kind` of `DictKeys`, unless `$keys`
-// is an error.
+// Makes the shape of a dictionary with keys of the variant `$kind` of `DictKeys`. If `$keys` is an
+// error, gives this error.
 macro_rules! entries {
     ($kind:ident, $keys:expr) => {
         match $keys {
@@ -66,8 +66,9 @@ pub enum Shape {
     Entries(DictKeys),
 }
 
-/// Returns the shape of a part that is a list array. Fails with `Parts` if `ends` or `present`
-/// does, and with `Memory` if an allocation fails.
+/// Returns the shape of a part that is a list array with the offsets `offsets`. Fails with `Parts`
+/// if the offsets don't fit the rows and the base of the part, or if there are fewer validity bits
+/// than rows. Fails with `Memory` if an allocation fails.
 fn lists<O: LentOffset>(alloc: Global, part: &Part<'_>, offsets: &[O]) -> Result<Shape, Refused>
     ensures made { IfOk result
         (FitsLists (places_from part.now.base O.value offsets.now) part.now) }

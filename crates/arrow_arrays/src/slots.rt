@@ -74,9 +74,10 @@ pub fn truths(alloc: Global, part: &Part<'_>) -> Result<BooleanArray, Refused>
     Ok(array)
 }
 
-/// Returns the offsets of a part's strings or lists, less the base of the part. Fails with `Parts`
-/// if there isn't one offset more than rows, or if an offset is less than the base, and with
-/// `Memory` if an allocation fails. A part without rows may have no offset at all.
+/// Subtracts the base of a part from `offsets`, the offsets of its strings or lists, and returns
+/// the results. Fails with `Parts` if there isn't one offset more than rows, or if an offset is
+/// less than the base, and with `Memory` if an allocation fails. A part without rows may have no
+/// offset at all.
 pub fn ends<O: LentOffset>(
     alloc: Global,
     part: &Part<'_>,
@@ -95,8 +96,9 @@ pub fn ends<O: LentOffset>(
     Ok(ends)
 }
 
-/// Returns the array of a part's byte strings. Fails with `Parts` if the offsets or the validity
-/// don't fit the rows, or an offset lies past the bytes, and with `Memory` if an allocation fails.
+/// Returns the array of a part's byte strings, which have the offsets `offsets`. Fails with `Parts`
+/// if the offsets or the validity don't fit the rows, or an offset lies past the bytes, and with
+/// `Memory` if an allocation fails.
 pub fn strings<O: LentOffset>(
     alloc: Global,
     part: &Part<'_>,
@@ -116,9 +118,8 @@ pub fn strings<O: LentOffset>(
     Ok(array)
 }
 
-/// Returns the array of a part's texts. Fails with `Parts` if the offsets or the validity don't
-/// fit, or if a text is not UTF-8, also one under a null. Fails with `Memory` if an allocation
-/// fails.
+/// Returns the array of a part's texts, which have the offsets `offsets`. Fails as `strings` does,
+/// and with `Parts` if a text is not UTF-8, also one under a null.
 pub fn texts<O: LentOffset>(
     alloc: Global,
     part: &Part<'_>,
@@ -138,9 +139,9 @@ pub fn texts<O: LentOffset>(
     Ok(array)
 }
 
-/// Returns the array of a part's byte strings of `part.width` bytes each. Fails with `Parts` unless
-/// there are exactly the bytes of all rows, and enough validity bits. Fails with `Memory` if an
-/// allocation fails.
+/// Returns the array of a part's byte strings of `part.width` bytes each. Fails with `Parts` if
+/// there are not exactly `part.width` bytes for each row, or if there are fewer validity bits than
+/// rows. Fails with `Memory` if an allocation fails.
 pub fn sized_strings(alloc: Global, part: &Part<'_>) -> Result<FixedSizeBinaryArray, Refused>
     ensures made { IfOk result (IsSizedStrings part.now) }
     ensures refused { IfErr result (IsHonest (AreSized part.now (length part.now.u8s.now))) }

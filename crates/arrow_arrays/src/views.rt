@@ -69,8 +69,8 @@ fn short_row(bytes: &[u8], len: usize) -> Option<&[u8]>
     }
 }
 
-/// Returns the row of a view that is longer than 12 bytes. Returns `None` if its buffer doesn't
-/// exist or is too short, or if the row doesn't begin with `prefix`.
+/// Returns a row of more than 12 bytes, which lies in the buffer to which `view` refers. Returns
+/// `None` if this buffer doesn't exist or is too short, or if the row doesn't begin with `prefix`.
 #[inline(always)]
 fn long_row<'a>(view: &View, prefix: &[u8], buffers: &'a [Bytes<'a>]) -> Option<&'a [u8]>
     requires long { 12 < view_len view.now }
@@ -90,7 +90,8 @@ fn long_row<'a>(view: &View, prefix: &[u8], buffers: &'a [Bytes<'a>]) -> Option<
     Some(&bytes[at..at + len])
 }
 
-/// Returns the row of the view that is stored as sixteen bytes, or `None` if the view is not valid.
+/// Returns the row of the view that is stored as the sixteen bytes `bytes`. A row of more than 12
+/// bytes lies in one of `buffers`. Returns `None` if the view is not valid.
 fn row_of<'a>(bytes: &'a [u8], buffers: &'a [Bytes<'a>]) -> Option<&'a [u8]>
     requires { length bytes.now ≡ 16 }
     ensures row { IfSome result (λ row. row.now ≡ row_bytes (lent_buffers buffers.now) bytes.now) }
@@ -118,8 +119,9 @@ fn is_row(present: &Option<Bitmap>, i: usize) -> bool
     }
 }
 
-/// Appends the bytes of row `i` to `bytes` if the row is present. Fails with `Parts` if its view is
-/// not valid, and with `Memory` if an allocation fails.
+/// Appends the bytes of row `i` of a part with views to `bytes`. Appends nothing if the row is null
+/// by `present`, the validity of the part. Fails with `Parts` if the view of a present row is not
+/// valid, and with `Memory` if an allocation fails.
 fn append_row(
     part: &Part<'_>,
     present: &Option<Bitmap>,
@@ -156,8 +158,9 @@ struct Strings {
     bytes: Buffer<u8>,
 }
 
-/// Copies the rows of all views into byte strings. A null row becomes an empty string. Fails with
-/// `Parts` if the view of a present row is not valid, and with `Memory` if an allocation fails.
+/// Copies the rows of a part with views into byte strings. A row that is null by `present`, the
+/// validity of the part, becomes an empty string. Fails with `Parts` if the view of a present row
+/// is not valid, and with `Memory` if an allocation fails.
 fn gathered(alloc: Global, part: &Part<'_>, present: &Option<Bitmap>) -> Result<Strings, Refused>
     requires present { present.now ≡ present_in part.now }
     requires size { length part.now.u8s.now ≡ 16 * part.now.rows }

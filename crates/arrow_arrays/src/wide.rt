@@ -21,7 +21,7 @@ fn joined(low: u64, high: u64) -> u128
     u128::from(low) + u128::from(high) * (1 << 64)
 }
 
-/// Returns the signed number with the same 128 bits.
+/// Returns the signed number that has the same 128 bits as `number`.
 #[inline(always)]
 fn signed(number: u128) -> i128
     ensures { result ≡ signed_wide number }

@@ -14,10 +14,11 @@ use arrow_parts::part::Part;
 use polars_compute_reductions::bit_number::BitNumber;
 use std::alloc::Global;
 
-/// Writes a count of the bits of each number of `values` into `counts`. The validity of the counts
-/// is that of the part, and the count of a null row is arbitrary. Fails with `Parts` if `column`
-/// does, with `Room` if `counts` does not have one element for each row, and with `Memory` if an
-/// allocation fails. `counts` is then unchanged.
+/// Counts the bits that `counting` selects in each of `values`, the numbers of a part, and writes
+/// the counts into `counts`. The validity of the counts is that of the part, and the count of a
+/// null row is arbitrary. Fails with `Parts` if `column` does, with `Room` if `counts` does not
+/// have one element for each row, and with `Memory` if an allocation fails. `counts` is then
+/// unchanged.
 pub fn count_numbers<T: BitNumber>(
     alloc: Global,
     counting: Counting,

@@ -23,8 +23,8 @@ pub fn comparison_of_code(number: u32) -> Option<Test>
     }
 }
 
-/// Returns the count of bits whose code in `dunkelva.h` is `number` (`DUNKELVA_ONES` is 0), or
-/// `None` if the code is unknown.
+/// Returns the way to count bits that has the code `number` in `dunkelva.h` (`DUNKELVA_ONES` is 0),
+/// or `None` if the code is unknown.
 pub fn counting_of(number: u32) -> Option<Counting>
     ensures { result ≡ counting_number number }
 {
@@ -39,8 +39,8 @@ pub fn counting_of(number: u32) -> Option<Counting>
     }
 }
 
-/// Returns the operator on bits whose code in `dunkelva.h` is `number` (`DUNKELVA_AND` is 0), or
-/// `None` if the code is unknown.
+/// Returns the bitwise operator that has the code `number` in `dunkelva.h` (`DUNKELVA_AND` is 0),
+/// or `None` if the code is unknown.
 pub fn operator_of(number: u32) -> Option<BitOperator>
     ensures { result ≡ operator_number number }
 {

@@ -36,8 +36,8 @@ impl<'a, T: Copy> Model for Column<'a, T> {
 }
 
 impl<'a, T: NativeType> Column<'a, T> {
-    /// Creates a column. Fails with `Length` if there is a validity whose length isn't the number
-    /// of values.
+    /// Creates a column of `values`. If `validity` is `None`, all rows are present. Fails with
+    /// `Length` if there is a validity that does not have one bit for each value.
     pub fn try_new(values: &'a [T], validity: Option<Bitmap>) -> Result<Column<'a, T>, ArrayError>
         ensures made { OkIff result (HasBits (length values.now) validity)
             (record { values = values.now; validity = validity; owned = false }) }

@@ -37,8 +37,9 @@ pub enum Test {
     GreaterOrEqual,
 }
 
-// Compares the stored values of two columns row by row, and then applies their masks, so that null
-// is equal to null alone. The only error is `Memory`.
+// Compares the stored values of two columns row by row with `comparison`. Then corrects the bits of
+// null rows with the masks, so that null is equal to null alone under `relation`, which is `Equal`
+// or `Unequal`. Returns a bit for each pair of rows. The only error is `Memory`.
 fn join<T: NativeType, E: RowComparison<T>>(
     alloc: Global,
     relation: Relation,
@@ -62,7 +63,8 @@ fn join<T: NativeType, E: RowComparison<T>>(
     join_masks(alloc, relation, &pairs, left.mask(), right.mask())
 }
 
-/// Sets the bit of each row that is null by `mask` to 0. Changes nothing if there is no mask.
+/// Sets each bit of `bits` to 0 if the bit of `mask` for the same row is 0, that is, if the row is
+/// null. Changes nothing if `mask` is `None`.
 pub fn keep_present(bits: &mut MutableBitmap, mask: Option<BitMask<'_>>)
     requires { HasBits (length bits.old) mask }
     ensures { bits.new ≡ under mask.entry bits.old }
@@ -72,8 +74,8 @@ pub fn keep_present(bits: &mut MutableBitmap, mask: Option<BitMask<'_>>)
     }
 }
 
-// Compares the rows of two columns row by row. Returns 0 for a pair of rows if one of them is null.
-// The only error is `Memory`.
+// Compares the rows of two columns row by row. Returns a bit for each pair of rows, 1 if both rows
+// are present and `comparison` is true. The only error is `Memory`.
 fn compare_present<T: NativeType, E: RowComparison<T>>(
     alloc: Global,
     comparison: &E,
@@ -115,8 +117,8 @@ pub fn compare<T: NativeType>(
     }
 }
 
-// Compares each row of a column with the number `right`. Returns 0 for a null row. The only error
-// is `Memory`.
+// Compares each row of a column with the number `right`. Returns a bit for each row, 1 if the row
+// is present and `comparison` is true. The only error is `Memory`.
 fn compare_present_with<T: NativeType, E: RowComparison<T>>(
     alloc: Global,
     comparison: &E,

@@ -27,7 +27,7 @@ pub enum Counting {
     TrailingZeros,
 }
 
-// The counts of the bits of each value, as `Computed` numbers.
+// The number of bits that `count` counts in each of `values`, as `Computed` numbers.
 #[derive(Drop)]
 struct Counts<'a, T, C> {
     values: &'a [T],
@@ -53,7 +53,8 @@ impl<'a, T: NativeType, C: BitCount<T>> Computed<u32> for Counts<'a, T, C> {
     }
 }
 
-// Writes the count of each value into `out`, also of the values under nulls.
+// Applies `count` to each stored value of a column, also to those under nulls, and writes the
+// numbers of bits into `out`.
 fn write_counts<T: NativeType, C: BitCount<T> + Drop>(
     count: C,
     column: &Column<'_, T>,
@@ -67,9 +68,9 @@ fn write_counts<T: NativeType, C: BitCount<T> + Drop>(
     write(&Counts { values, count }, out);
 }
 
-/// Counts bits of each row of a column, and writes the counts into `out`, which has the length of
-/// the column. The validity of the counts is that of the column, and the count of a null row is
-/// arbitrary.
+/// Counts the bits that `counting` selects in each row of a column, and writes the counts into
+/// `out`, which has the length of the column. The validity of the counts is that of the column, and
+/// the count of a null row is arbitrary.
 pub fn count_bits<T: BitNumber>(counting: Counting, column: &Column<'_, T>, out: &mut [u32])
     requires { length out.old ≡ length column.now.values }
     ensures { rows_under column.now.validity (number_slots (λ n. pos n) out.new)

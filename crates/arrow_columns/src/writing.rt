@@ -19,7 +19,7 @@ pub trait Computed<T: NativeType> {
         ensures { slice_get (numbers self.now) i ≡ Some (T.value result) };
 }
 
-/// Computes all numbers, and writes them into `out`, which has the same length.
+/// Computes all numbers of `computed`, and writes them into `out`, which has one element for each.
 pub fn write<T: NativeType, C: Computed<T>>(computed: &C, out: &mut [T])
     requires { length out.old ≡ length (C.numbers computed.now) }
     ensures { map T.value out.new ≡ C.numbers computed.now }

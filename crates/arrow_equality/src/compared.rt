@@ -44,9 +44,10 @@ pub fn compare(alloc: Global, left: &AnyArray, right: &AnyArray) -> Result<Compa
     })
 }
 
-/// Writes the bits of the rows into `out`, from the lowest bit of the first word on, and sets all
-/// later bits to 0. Sets `comparisons[0]` to the number of comparisons. Fails with `Room` if `out`
-/// has fewer bits than rows or `comparisons` is empty. Both slices are then unchanged.
+/// Writes the bits of `compared` into `out`, the first one into the lowest bit of the first word,
+/// and sets all later bits to 0. Sets `comparisons[0]` to the number of comparisons. Fails with
+/// `Room` if `out` has fewer bits than rows or `comparisons` is empty. Both slices are then
+/// unchanged.
 pub fn write(compared: &Compared, out: &mut [u64], comparisons: &mut [u64]) -> Result<(), Refused>
     ensures bits { OnOk result (AreWritten compared.now.bits out.new) }
     ensures count { OnOk result (slice_index_or comparisons.new 0 0 ≡ compared.now.comparisons) }

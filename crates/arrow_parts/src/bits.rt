@@ -11,8 +11,8 @@ use polars_arrays_bits::buffer::Buffer;
 use polars_arrays_words::packing::put;
 use std::alloc::Global;
 
-/// Returns a word made of the `count` bytes from index `at` on. The first byte is the lowest one,
-/// and the bits above the last one are 0.
+/// Returns the `count` bytes of `bytes` from index `at` on as a word, the first byte lowest. The
+/// remaining high bytes of the word are 0.
 fn few_bytes(bytes: &[u8], at: usize, count: usize) -> u64
     requires few { count ≤ 8 }
     requires within { at + count ≤ length bytes.now }

@@ -26,11 +26,10 @@ pub struct Part<'a> {
     pub rows: usize,
     /// The number of bytes or items in each row of a `FixedSizeBinary` or `FixedSizeList`.
     pub width: usize,
-    /// The index of the bit at which the rows begin in `present`, and in `u8s` if that has truth
-    /// values.
+    /// The index of the first row's bit in `present`, and in `u8s` if the rows are truth values.
     pub first_bit: usize,
-    /// The offset of strings or lists at which the lent bytes or items begin. An offset `o` is
-    /// index `o - base` of the lent bytes or items.
+    /// The offset, in a string or list array, of the first lent byte or item. An offset `o` refers
+    /// to index `o - base` of the lent bytes or items.
     pub base: usize,
     /// The name of the part in UTF-8, if it is a column of a struct.
     pub name: &'a [u8],
@@ -96,7 +95,7 @@ pub enum PartKind {
 }
 
 impl PartKind {
-    /// Returns the kind with number `number`, or `None` unless it is a number from 1 to 31.
+    /// Returns the kind that has the number `number`, or `None` if `number` is not in 1 to 31.
     pub fn of(number: u32) -> Option<PartKind>
         ensures { result ≡ kind_number number }
     {

@@ -10,7 +10,8 @@ use crate::refused::Refused;
 use polars_arrays_bits::bit_mask::BitMask;
 use polars_arrays_bits::bitmap::Bitmap;
 
-/// Returns the bits `64 * k` to `64 * k + 63` of a mask as a word. Bits past the end are 0.
+/// Returns bits `64 * k` to `64 * k + 63` of `mask` as a word, the first one lowest. Bits past the
+/// end of the mask are 0.
 fn word_at(mask: &BitMask<'_>, k: usize) -> u64
     ensures { IsWord (λ p. slice_index_or mask.now p false) k result }
 {
@@ -24,10 +25,10 @@ fn word_at(mask: &BitMask<'_>, k: usize) -> u64
     }
 }
 
-/// Writes bits into `out`, from the lowest bit of the first word on. Sets all later bits of `out`
-/// to 0.
+/// Writes `bits` into `out`, the first one into the lowest bit of the first word. Sets all later
+/// bits of `out` to 0.
 ///
-/// Fails with `Room` if `out` has fewer bits than `bits`. It is then unchanged.
+/// Fails with `Room` if `out` has fewer bits than `bits`. `out` is then unchanged.
 pub fn write_bits(bits: &Bitmap, out: &mut [u64]) -> Result<(), Refused>
     ensures written { OnOk result (AreWritten bits.now out.new) }
     ensures refused { IfErr result (λ e. e ≡ Room) }

@@ -42,7 +42,7 @@ fn lies_between<T: UniqueNumber>(least: T, greatest: T, number: T) -> bool
     LessOrEqual.compare(least, number) & LessOrEqual.compare(number, greatest)
 }
 
-// Returns the last number of the range that type `T` can represent.
+// Returns the greatest number of the range `span` that type `T` can represent.
 fn last_number<T: UniqueNumber>(span: &Span<T>) -> T
     requires { 0 < span.now.count }
     ensures { (m : ℤ) → m ≤ℤ T.high → (HasSlot (T.value span.now.least) span.now.count (Int m)

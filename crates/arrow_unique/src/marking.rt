@@ -25,7 +25,7 @@ fn set_bit(words: &mut [u64], p: usize)
     words[p / WORD_BITS] = word | 1u64 << (p % WORD_BITS);
 }
 
-// Sets the bit of a number of the range `span`.
+// Sets the bit of `number`, which lies in the range `span`, in the state `words`.
 #[inline(always)]
 fn mark_number<T: UniqueNumber>(words: &mut [u64], span: &Span<T>, number: T)
     requires fit { HasSlot (T.value span.now.least) span.now.count (Int (T.value number)) }
@@ -36,7 +36,7 @@ fn mark_number<T: UniqueNumber>(words: &mut [u64], span: &Span<T>, number: T)
     set_bit(words, span.slot(number));
 }
 
-// Sets the bit of each number of `numbers`.
+// Sets the bits of `numbers`, which all lie in the range `span`, in the state `words`.
 #[inline(always)]
 fn mark_all<T: UniqueNumber>(words: &mut [u64], span: &Span<T>, numbers: &[T])
     requires fit { HaveSlots (T.value span.now.least) span.now.count
@@ -122,8 +122,8 @@ fn mark_masked<T: UniqueNumber>(
     );
 }
 
-/// Sets the bits of all present numbers. Numbers stored under nulls are ignored. All rows are
-/// present if `validity` is `None`.
+/// Sets the bits of the numbers of all present rows, which lie in the range `span`, in the state
+/// `words`. Numbers stored under nulls are ignored. All rows are present if `validity` is `None`.
 pub fn mark_rows<T: UniqueNumber>(
     words: &mut [u64],
     span: &Span<T>,

@@ -32,9 +32,9 @@ pub struct Sheet<'a> {
     pub right: &'a str,
 }
 
-/// Reads the JSON lines of a report. Appends the texts before the table to `head`, the rows of the
-/// table to `rows`, and the texts after the table to `tail`. Fails with `NoReport` if one of
-/// `lines` is not a line of a report.
+/// Reads `lines`, the JSON lines of a report. Appends the texts before the table to `head`, the
+/// rows of the table to `rows`, and the texts after the table to `tail`. Fails with `NoReport` if
+/// one of `lines` is not a line of a report, and with `Memory` if an allocation fails.
 fn push_lines(
     alloc: Global,
     head: &mut Vec<u8>,
@@ -62,7 +62,7 @@ fn push_lines(
 
 /// Splits `text` into the JSON lines of a report. Appends the texts before the table to `head`, the
 /// rows of the table to `rows`, and the texts after the table to `tail`. Fails with `NoReport` if a
-/// line of `text` is not a line of a report.
+/// line of `text` is not a line of a report, and with `Memory` if an allocation fails.
 fn push_text(
     alloc: Global,
     head: &mut Vec<u8>,
@@ -106,8 +106,9 @@ fn push_rows(
 
 /// Appends a report as a table in aligned columns. `report` is the same report as JSON lines.
 ///
-/// Fails with `NoReport` only if a line of `report` is not JSON, nests deeper than 256 levels or
-/// has no known kind. After an error `out` may have a part of the report.
+/// Fails with `NoReport` if `report` is not UTF-8, or if one of its lines is not JSON, nests deeper
+/// than 256 levels or has no known kind. Fails with `Memory` if an allocation fails. After an
+/// error, `out` may have a part of the report.
 pub fn push_aligned(
     alloc: Global,
     out: &mut Vec<u8>,

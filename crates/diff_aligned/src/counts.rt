@@ -33,8 +33,8 @@ fn push_ascii_word(
     Ok(())
 }
 
-/// Appends a name to `words` as one word. It is a JSON string if it has blanks or other special
-/// characters (`push_name`).
+/// Appends `name` to `words` as one word: unchanged, or as a JSON string if it has blanks or other
+/// special characters (`push_name`).
 fn push_name_word(alloc: Global, words: &mut Vec<Vec<char>>, name: &str) -> Result<(), AllocError>
     ensures { OnOk result (map (λ v. v.items) words.new.items
         ≡ map (λ v. v.items) words.old.items ++ name_text name.now ∷ []) }
@@ -45,8 +45,8 @@ fn push_name_word(alloc: Global, words: &mut Vec<Vec<char>>, name: &str) -> Resu
     Ok(())
 }
 
-/// Appends one word, such as `3 changed,`: the number that the member `name` of `counts` has, and
-/// then `counted`.
+/// Appends one word to `words`, such as `3 changed,`: the number that `counts` has as its member
+/// `name`, and then the text `counted`.
 fn push_count(
     alloc: Global,
     words: &mut Vec<Vec<char>>,
@@ -64,8 +64,8 @@ fn push_count(
     Ok(())
 }
 
-/// Appends the word `.. and N more` with `count` for N, or nothing if `count` is `0`. `count` is
-/// the number of differences that the report leaves out.
+/// Appends `.. and N more` to `words` as one word, where N is `count`, the number of differences
+/// that the report leaves out. Appends nothing if `count` is `0`.
 fn push_hidden_words(
     alloc: Global,
     words: &mut Vec<Vec<char>>,
@@ -85,7 +85,8 @@ fn push_hidden_words(
     Ok(())
 }
 
-/// Appends four words, such as `3 changed,`: the numbers of changed, removed, added and equal rows.
+/// Appends four words to `words`, such as `3 changed,`: the numbers of changed, removed, added and
+/// equal rows. `counts` is the JSON line of the counts.
 #[tactic(auto, unfolding(crate::specs::Counts::kind_words))]
 fn push_kind_words(
     alloc: Global,
@@ -135,9 +136,9 @@ fn push_pair_words(
     Ok(())
 }
 
-/// Appends `By column:` and a word `name=count` for each column in which cells differ. `members`
-/// has the names of these columns, each with its number of differing cells. Appends nothing if
-/// `members` is empty.
+/// Appends `By column:` to `words`, and then a word `name=count` for each of `members`, which have
+/// the name of a column and the number of cells that differ in it. Appends nothing if `members` is
+/// empty.
 #[tactic(auto, using(crate::proofs::PartLemmas::no_column_words, crate::proofs::PartLemmas::some_column_words))]
 fn push_columns(
     alloc: Global,
@@ -156,8 +157,8 @@ fn push_columns(
     Ok(())
 }
 
-/// Appends the number of differing cells for each column in the member `columns` of `counts`.
-/// Appends nothing if this member is not an object or is empty.
+/// Appends to `words` the number of differing cells of each column (`push_columns`), as the member
+/// `columns` of `counts` has them. Appends nothing if this member is not an object or is empty.
 fn push_column_words(
     alloc: Global,
     words: &mut Vec<Vec<char>>,
@@ -174,7 +175,8 @@ fn push_column_words(
     }
 }
 
-/// Appends the number of skipped lines of the left file and that of the right file.
+/// Appends `Skipped lines:` to `words`, and then the number of skipped lines of the left and of the
+/// right file. `counts` is the JSON line of the counts.
 fn push_skipped_counts(
     alloc: Global,
     words: &mut Vec<Vec<char>>,
@@ -189,8 +191,8 @@ fn push_skipped_counts(
     Ok(())
 }
 
-/// Appends the number of skipped lines of each file. Appends nothing if the member `left_skipped`
-/// of `counts` is not a number.
+/// Appends the number of skipped lines of each file to `words` (`push_skipped_counts`). Appends
+/// nothing if the member `left_skipped` of `counts` is not a number.
 #[tactic(auto, unfolding(crate::specs::Counts::skipped_words))]
 fn push_skipped_words(
     alloc: Global,
@@ -242,8 +244,9 @@ fn file_with<'a>(left: &'a str, right: &'a str, only_in: &str) -> &'a str
     if only_in == "left" { left } else { right }
 }
 
-/// Appends the message that a column is only in one file. `left` and `right` are the names of the
-/// files. `line` is the JSON line about the column.
+/// Appends the message that a column is only in one file, in lines of at most `width` columns of
+/// the terminal. `left` and `right` are the names of the files. `line` is the JSON line about the
+/// column.
 #[tactic(auto, unfolding(crate::specs::Counts::column_lines))]
 pub(crate) fn push_column(
     alloc: Global,

@@ -16,8 +16,9 @@ use diff_lines::line::{Kind, read_line};
 use json::{Scratch, Value};
 use std::alloc::{AllocError, Global};
 
-/// Appends the output for one line of a report. A line about a column goes to `head`, a changed,
-/// removed or added row goes to `rows`, and the counts go to `tail`.
+/// Appends the output for `line`, a JSON line of kind `kind` in a report. The message about a
+/// column is appended to `head`, the table rows of a changed, removed or added row to `rows`, and
+/// the counts to `tail`.
 fn push_by_kind(
     alloc: Global,
     head: &mut Vec<u8>,
@@ -44,12 +45,12 @@ fn push_by_kind(
     }
 }
 
-/// Reads a JSON line of a report and appends its output: texts before the table to `head`, rows of
-/// the table to `rows`, texts after the table to `tail`. `scratch` is the memory of the JSON
-/// reader, which is reused for each line.
+/// Reads `line`, a JSON line of a report, and appends its output: texts before the table to `head`,
+/// rows of the table to `rows`, texts after the table to `tail`. `scratch` is the memory of the
+/// JSON reader, which is reused for each line.
 ///
-/// Fails with `NoReport` only if `line` is not a line of a report. After an error a part of the
-/// output may be appended.
+/// Fails with `NoReport` if `line` is not a line of a report, and with `Memory` if an allocation
+/// fails. After an error, a part of the output may have been appended.
 pub(crate) fn push_line(
     alloc: Global,
     head: &mut Vec<u8>,

@@ -24,7 +24,8 @@ pub(crate) fn push_chars(out: &mut Vec<u8>, text: &[char]) -> Result<(), AllocEr
     Ok(())
 }
 
-/// Appends characters. If `colored`, they are in `color`, and the plain colour follows.
+/// Appends the characters of `text`. If `colored`, switches the terminal to `color` before them,
+/// and back to the default colour after them.
 #[tactic(auto, unfolding(diff_words::specs::Colors::painted))]
 fn push_painted(
     out: &mut Vec<u8>,
@@ -84,7 +85,8 @@ fn middle_of(alloc: Global, rooms: &Rooms, row: &Row) -> Result<Vec<char>, Alloc
     Ok(text)
 }
 
-/// Returns the blanks that fill `left` up to `room` columns, and an arrow.
+/// Returns the blanks that fill `left` up to `room` columns, and then an arrow. `left` is the left
+/// value of a changed row.
 fn arrow_of(alloc: Global, left: &[char], room: usize) -> Result<Vec<char>, AllocError>
     ensures { IfOk result (λ v. v.items ≡ filler room left.now ++ codes " -> ") }
 {
@@ -119,7 +121,7 @@ fn push_change(
     Ok(())
 }
 
-/// Returns `mark` and then the key of `row`, cut to the width of keys.
+/// Returns `mark`, and then the key of `row`, cut if it is wider than `rooms.key`.
 fn marked_key(alloc: Global, mark: &[u8], rooms: &Rooms, row: &Row) -> Result<Vec<char>, AllocError>
     ensures { IfOk result (λ v. v.items ≡ mark.now ++ cut rooms.now.key row.now.key.items) }
 {
@@ -129,8 +131,8 @@ fn marked_key(alloc: Global, mark: &[u8], rooms: &Rooms, row: &Row) -> Result<Ve
     Ok(text)
 }
 
-/// Appends the line of a row that only one file has: the mark, the key and the note, all in one
-/// colour.
+/// Appends the line of a row that only one file has: `mark`, the key and the note of `row`, all in
+/// `color` if `colored`.
 #[tactic(auto, unfolding(crate::specs::Pieces::lone_pieces))]
 fn push_lone(
     alloc: Global,
@@ -154,7 +156,8 @@ fn push_lone(
     Ok(())
 }
 
-/// Appends the line of text for a row of the table. The mark of the row selects its form.
+/// Appends the line of text for a row of the table. The form and colours of the line depend on the
+/// mark of the row.
 pub(crate) fn push_row(
     alloc: Global,
     out: &mut Vec<u8>,

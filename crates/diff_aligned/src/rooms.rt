@@ -12,7 +12,8 @@ use diff_widths::cut::width_of;
 /// The width of the mark, the gaps and the arrow in the line of a changed row.
 const GAPS: usize = 10;
 
-/// A width for each part of a row.
+/// A width for each part of a row: each field is the width of the field of `Row` with the same
+/// name.
 #[derive(Clone, Copy)]
 pub(crate) struct Rooms {
     pub(crate) key: usize,
@@ -22,7 +23,8 @@ pub(crate) struct Rooms {
     pub(crate) note: usize,
 }
 
-/// Returns the greater of two widths for each part: that in `rooms`, and that of the part in `row`.
+/// Returns for each part the greater of two widths: the width in `rooms`, and the width that the
+/// part has in `row`.
 fn with_row(rooms: Rooms, row: &Row) -> Rooms
     ensures { result ≡ with_row rooms (row_view row.now) }
 {
@@ -35,7 +37,8 @@ fn with_row(rooms: Rooms, row: &Row) -> Rooms
     }
 }
 
-/// Returns for each part its greatest width in `rows`.
+/// Returns for each part the greatest width that it has in any of `rows`, or 0 if there are no
+/// rows.
 fn needed(rows: &[Row]) -> Rooms
     ensures { result ≡ needed no_rooms (rows_view rows.now) }
 {
@@ -52,9 +55,9 @@ fn needed(rows: &[Row]) -> Rooms
     rooms
 }
 
-/// Returns the width of one of `n` parts that share `free` columns. The part needs `need` columns,
-/// and the other parts leave `left` of the free ones. The part gets what it needs, but at most the
-/// greater of `free / n` and `left`.
+/// Returns the width of one of `n` parts that share `free` columns: `need`, the columns that the
+/// part needs, but at most the greater of `free / n` and `left`. `left` is the number of columns
+/// that remain if each of the other parts gets what it needs.
 fn share(n: usize, free: usize, need: usize, left: usize) -> usize
     requires { 0 < n }
     ensures { result ≡ share n free need left }

@@ -29,8 +29,9 @@ pub(crate) enum Mark {
     Added,
 }
 
-/// A row of the table. A removed or added row has a key and a `note`. Other rows have a key, a
-/// `part` (the column or path that differs), and the `left` and `right` values.
+/// A row of the table. A removed or added row has a `key` and a `note`. Other rows have a `key`, a
+/// `part` (the column or path that differs), and the values `left` and `right`. Fields that a row
+/// does not have are empty. The `key` of a row with `Mark::Again` is empty too.
 #[derive(Drop)]
 pub(crate) struct Row {
     pub(crate) mark: Mark,
@@ -41,8 +42,8 @@ pub(crate) struct Row {
     pub(crate) note: Vec<char>,
 }
 
-/// Appends a row of the table for one difference. `name` is the column or path. `change` has the
-/// two values as its members `left` and `right`.
+/// Appends a row of the table for one difference, with `mark` and `key`. `name` is the column or
+/// path that differs. `change` has the two values as its members `left` and `right`.
 #[tactic(auto, unfolding(crate::specs::Rows::change_row))]
 fn push_change(
     alloc: Global,
@@ -75,9 +76,9 @@ fn push_change(
     Ok(())
 }
 
-/// Appends a row of the table for each of `changes`, which are members: the name of a column, and
-/// its change. `name` is the key of the changed row, and is shown in the first of the appended
-/// rows.
+/// Appends a row of the table for each of `changes`. Each change is a member: the name of a column,
+/// and an object with the two values. `name` is the key of the changed row. Only the first of the
+/// appended rows has this key.
 fn push_member_rows(
     alloc: Global,
     rows: &mut Vec<Row>,
@@ -99,9 +100,9 @@ fn push_member_rows(
     Ok(())
 }
 
-/// Appends a row of the table for each of `changes`, which have the path that differs as their
-/// member `path`. `name` is the key of the changed row, and is shown in the first of the appended
-/// rows.
+/// Appends a row of the table for each of `changes`. The member `path` of each change is the path
+/// that differs. `name` is the key of the changed row. Only the first of the appended rows has this
+/// key.
 fn push_item_rows(
     alloc: Global,
     rows: &mut Vec<Row>,
@@ -123,8 +124,9 @@ fn push_item_rows(
     Ok(())
 }
 
-/// Appends the rows of the table for a changed row whose `changes` are an object by columns.
-/// Appends nothing if `changes` is not an object.
+/// Appends a row of the table for each member of the object that `line` has as its member
+/// `changes`. Appends nothing if this member is not an object. `line` is the JSON line of a changed
+/// row.
 fn push_rows_in_object(
     alloc: Global,
     rows: &mut Vec<Row>,
@@ -144,8 +146,8 @@ fn push_rows_in_object(
     Ok(())
 }
 
-/// Appends the rows of the table for a changed row whose `changes` are an array of paths. Appends
-/// nothing if `changes` is not an array.
+/// Appends a row of the table for each item of the array that `line` has as its member `changes`.
+/// Appends nothing if this member is not an array. `line` is the JSON line of a changed row.
 fn push_rows_in_array(
     alloc: Global,
     rows: &mut Vec<Row>,
@@ -182,8 +184,9 @@ pub(crate) fn push_changed(
     Ok(())
 }
 
-/// Appends the row of the table for a row that only `file` has. Its note is the name of the file
-/// and the line at which the row begins there.
+/// Appends the row of the table for a row that only the file named `file` has. The note of the new
+/// row is the name of the file, and the line at which the row begins there. `line` is the JSON line
+/// of the row.
 #[tactic(auto, unfolding(crate::specs::Rows::lone_row))]
 pub(crate) fn push_lone(
     alloc: Global,

@@ -31,7 +31,7 @@ fn is_hidden(c: char) -> bool
         || (0xE0000 <= code && code <= 0xE0FFF)
 }
 
-/// Returns the hexadecimal digit of `n`, as a lower case letter from 10 on.
+/// Returns `n` as a hexadecimal digit. The digits from 10 on are lower case letters.
 fn hex_digit(n: u32) -> char
     requires { n < 16 }
     ensures { result ≡ digit_glyph false n }
@@ -53,7 +53,7 @@ fn push_unit(out: &mut Vec<char>, unit: u32) -> Result<(), AllocError>
     Ok(())
 }
 
-/// Appends the two JSON escapes of the surrogate pair of a code point above U+FFFF.
+/// Appends the two JSON escapes of the surrogate pair of `code`, a code point above U+FFFF.
 fn push_surrogates(out: &mut Vec<char>, code: u32) -> Result<(), AllocError>
     requires { 65535 < code }
     ensures { OnOk result (out.new.items ≡ out.old.items ++ surrogates code) }

@@ -40,7 +40,7 @@ fn is_word_byte(byte: u8) -> bool
         && byte != 194
 }
 
-/// Returns whether `is_word_byte` holds for each byte.
+/// Returns whether `is_word_byte` holds for each byte of `bytes`.
 fn are_word_bytes(bytes: &[u8]) -> bool
     ensures { result ≡ list_all is_word_byte bytes.now }
 {
@@ -68,8 +68,8 @@ pub(crate) fn push_name(alloc: Global, out: &mut Vec<char>, name: &str) -> Resul
     Ok(())
 }
 
-/// Appends the value that `change` has on a side (`left` or `right`) as JSON. Appends `missing` if
-/// it has no member of this name.
+/// Appends the member `side` (`left` or `right`) of `change` as JSON. Appends `missing` if `change`
+/// has no such member.
 pub(crate) fn push_side(
     alloc: Global,
     out: &mut Vec<char>,
@@ -123,8 +123,8 @@ fn push_pairs(
     Ok(())
 }
 
-/// Appends the members of the object that is the member `name` of `value`. Appends nothing if this
-/// member is not an object.
+/// Appends the members of the object that `value` has as its member `name`, each as `name=value`.
+/// Appends nothing if `value` has no such member, or if the member is not an object.
 #[tactic(auto, unfolding(crate::specs::Texts::pairs_text))]
 pub(crate) fn push_pairs_of(
     alloc: Global,
@@ -142,8 +142,8 @@ pub(crate) fn push_pairs_of(
     }
 }
 
-/// Appends the number that is the member `name` of `value`, with its digits unchanged. Appends
-/// nothing if this member is not a number.
+/// Appends the number that `value` has as its member `name`, with its digits unchanged. Appends
+/// nothing if `value` has no such member, or if the member is not a number.
 #[tactic(auto, unfolding(crate::specs::Texts::number_text))]
 pub(crate) fn push_number(
     out: &mut Vec<char>,
@@ -156,7 +156,8 @@ pub(crate) fn push_number(
     push_text(out, number_at(value, name).as_bytes())
 }
 
-/// Appends the key of a changed row, or its line numbers in both files if it has no key.
+/// Appends the key of a changed row, or the line numbers of the row in both files if it has no key.
+/// `line` is the JSON line of the row.
 #[tactic(auto, unfolding(crate::specs::Texts::row_name))]
 pub(crate) fn push_row_name(
     alloc: Global,

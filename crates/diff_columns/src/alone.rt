@@ -9,8 +9,9 @@ use crate::names::has_column;
 use polars_arrays_flat::byte_rows::ByteRows;
 use std::alloc::{AllocError, Global};
 
-/// Returns whether the column with index `column` is chosen and the other table has no column of
-/// its name. `others` has the names of the other table's columns.
+/// Returns whether `choice` selects the column with index `column` and the other table has no
+/// column with the same name. `names` has the names of this table's columns, and `others` those of
+/// the other table's columns.
 fn is_alone<N: ByteRows, O: ByteRows>(
     names: &N,
     others: &O,
@@ -25,8 +26,9 @@ fn is_alone<N: ByteRows, O: ByteRows>(
     choice.has(name) && !has_column(others, name)
 }
 
-/// Returns the indices of the chosen columns whose names the other table does not have, in
-/// ascending order. `others` has the names of the other table's columns.
+/// Returns the indices of the columns that `choice` selects and that the other table does not have
+/// under the same name, in ascending order. `names` has the names of this table's columns, and
+/// `others` those of the other table's columns.
 pub(crate) fn columns_alone<N: ByteRows, O: ByteRows>(
     alloc: Global,
     names: &N,

@@ -30,10 +30,10 @@ pub enum ColumnError {
     /// An allocation failed.
     #[error("out of memory")]
     Memory,
-    /// Two columns of a table have the same name. `column` is the index of the later one.
+    /// Two columns of the table `side` have the same name. `column` is the index of the later one.
     #[error("column {column} of the {side} table has the name of an earlier one")]
     NameTwice { side: Side, column: usize },
-    /// A table has no column with the name of a key. `key` is the index of the key in
+    /// The table `side` has no column with the name of a key. `key` is the index of the key in
     /// `Choice::keys`.
     #[error("no column of the {side} table has the name of key {key}")]
     NoKey { side: Side, key: usize },

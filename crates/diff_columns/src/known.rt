@@ -6,15 +6,17 @@ ghost use Rattle.diff_columns.specs.Names.{IsKnown, IsUnknown, names_of};
 use crate::names::has_column;
 use polars_arrays_flat::byte_rows::ByteRows;
 
-/// Returns whether a column of at least one of the two tables has this name.
+/// Returns whether at least one of two tables has a column with the name `name`. `left` and `right`
+/// are arrays with the names of the columns.
 fn is_known<L: ByteRows, R: ByteRows>(left: &L, right: &R, name: &[u8]) -> bool
     ensures { IsTrue result ↔ IsKnown (L.strings left.now) (R.strings right.now) name.now }
 {
     has_column(left, name) || has_column(right, name)
 }
 
-/// Returns the index of the first of `names` that is a column of neither table, or `None` if each
-/// is a column. `left` and `right` are arrays with the names of the columns.
+/// Returns the index of the first of `names` that neither table has as the name of a column, or
+/// `None` if each is the name of a column. `left` and `right` are arrays with the names of the
+/// columns.
 pub fn name_unknown<L: ByteRows, R: ByteRows>(left: &L, right: &R, names: &[&[u8]]) -> Option<usize>
     ensures { MatchOption result
         (All (IsKnown (L.strings left.now) (R.strings right.now)) (names_of names.now))

@@ -23,7 +23,8 @@ pub struct Layout {
     pub left: Vec<usize>,
     /// For each entry of `left`, the right column with the same name.
     pub right: Vec<usize>,
-    /// For each key, the index of its column in `left`. The order is that of the keys.
+    /// For each entry of `Choice::keys`, the index `k` for which `left[k]` is the column of
+    /// this name.
     pub keys: Vec<usize>,
     /// The chosen left columns whose names the right table does not have, in ascending order.
     pub left_alone: Vec<usize>,
@@ -31,8 +32,9 @@ pub struct Layout {
     pub right_alone: Vec<usize>,
 }
 
-/// Checks the names of the columns of two tables. Fails with `NameTwice` if a table has two columns
-/// of the same name, and with `NoKey` if a table has no column for a key.
+/// Checks the names of the columns of two tables, `left` and `right`. Fails with `NameTwice` if two
+/// columns of a table have the same name, and with `NoKey` if a table has no column with the name
+/// of a key. The left table is checked first.
 fn test_names<L: ByteRows, R: ByteRows>(
     left: &L,
     right: &R,
@@ -59,7 +61,8 @@ fn test_names<L: ByteRows, R: ByteRows>(
     Ok(())
 }
 
-/// Matches the columns of two tables whose names are checked. The only error is a failed
+/// Matches the columns of two tables by name. `left` and `right` are the names of the columns,
+/// which `test_names` must accept. `choice` selects the columns. The only error is a failed
 /// allocation.
 fn layout_of<L: ByteRows, R: ByteRows>(
     alloc: Global,
@@ -88,7 +91,7 @@ fn layout_of<L: ByteRows, R: ByteRows>(
 }
 
 /// Matches the columns of two tables by name. `left` and `right` are arrays with the names of the
-/// columns.
+/// columns. `choice` selects the columns to compare.
 ///
 /// Fails with `NameTwice` if a table has two columns of the same name, with `NoKey` if a table has
 /// no column for a key, and with `Memory` if an allocation fails.

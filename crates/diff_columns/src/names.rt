@@ -1,11 +1,11 @@
-//! Looks for the names of columns. A column is given as an index.
+//! Searches the names of a table's columns (`names`). A column is given as an index.
 
 ghost use Rattle.std.specs.Prelude.{◌<◌, ◌↔◌, All, Contains, length, IsTrue, MatchOption};
 ghost use Rattle.diff_columns.specs.Names.{AreDistinct, IsMissing, IsNamed, IsRepeated, names_of};
 
 use polars_arrays_flat::byte_rows::ByteRows;
 
-/// Returns the index of a column with this name, or `None` if no column has it.
+/// Returns the index of the first column with the name `name`, or `None` if no column has it.
 pub(crate) fn column_named<N: ByteRows>(names: &N, name: &[u8]) -> Option<usize>
     ensures { MatchOption result (¬ (Contains (N.strings names.now) name.now))
         (IsNamed (N.strings names.now) name.now) }
@@ -25,7 +25,7 @@ pub(crate) fn has_column<N: ByteRows>(names: &N, name: &[u8]) -> bool
     column_named(names, name).is_some()
 }
 
-/// Returns whether an earlier column has the same name as this one.
+/// Returns whether an earlier column has the same name as the column with index `column`.
 fn is_repeated<N: ByteRows>(names: &N, column: usize) -> bool
     requires { column < length (N.strings names.now) }
     ensures { IsTrue result ↔ IsRepeated (N.strings names.now) column }

@@ -9,15 +9,17 @@ use crate::names::column_named;
 use polars_arrays_flat::byte_rows::ByteRows;
 use std::alloc::{AllocError, Global};
 
-/// The pairs of columns that are compared: `left_columns[k]` with `right_columns[k]`.
+/// The pairs of columns that are compared: left column `left_columns[k]` with right column
+/// `right_columns[k]`.
 #[derive(Drop)]
 pub(crate) struct ColumnPairs {
     pub(crate) left_columns: Vec<usize>,
     pub(crate) right_columns: Vec<usize>,
 }
 
-/// Returns the right column that the left column `column` is compared with. Returns `None` if the
-/// column is not chosen or the right table has no column of its name.
+/// Returns the index of the right column with which left column `column` is compared. Returns
+/// `None` if `choice` does not select the column or the right table has no column of the same name.
+/// `left` and `right` have the names of the columns.
 fn partner<L: ByteRows, R: ByteRows>(
     left: &L,
     right: &R,
@@ -37,7 +39,8 @@ fn partner<L: ByteRows, R: ByteRows>(
 }
 
 /// Returns the left columns that are compared, in ascending order, and for each the right column
-/// with the same name.
+/// with the same name. `choice` selects columns, and `left` and `right` have the names of the
+/// columns.
 pub(crate) fn compared_pairs<L: ByteRows, R: ByteRows>(
     alloc: Global,
     left: &L,

@@ -8,7 +8,8 @@ ghost use Rattle.diff_columns.specs.Pairs.{HasPlace};
 use polars_arrays_flat::byte_rows::ByteRows;
 use std::alloc::{AllocError, Global};
 
-/// Returns the index in `columns` of the column with this name. `columns` must contain one.
+/// Returns the index in `columns` of the column with the name `name`. `columns` must contain one.
+/// `names` has the names of all columns of the table.
 fn place_named<N: ByteRows>(names: &N, columns: &[usize], name: &[u8]) -> usize
     requires within { All (λ c. c < length (N.strings names.now)) columns.now }
     requires place { HasPlace (N.strings names.now) columns.now name.now }
@@ -22,8 +23,8 @@ fn place_named<N: ByteRows>(names: &N, columns: &[usize], name: &[u8]) -> usize
     unreachable!()
 }
 
-/// Returns for each key the index of its column in `columns`. `columns` must contain a column for
-/// each key.
+/// Returns for each of `keys` the index in `columns` of the column with this name. `columns` must
+/// contain one for each key. `names` has the names of all columns of the table.
 pub(crate) fn key_places<N: ByteRows>(
     alloc: Global,
     names: &N,

@@ -1,4 +1,4 @@
-//! A reader that stores its last bytes, to tell whether one of them is a line feed.
+//! A reader that stores the bytes of its last read, to tell whether one of them is a line feed.
 
 ghost use Rattle.std.specs.Prelude.{◌≡◌};
 ghost use Rattle.diff_csv.specs.Reading.{ends_remaining};

@@ -29,7 +29,7 @@ use std::mem;
 /// The mark: bytes that are added to the end of a text.
 const MARK: &[u8] = b"\n\"";
 
-/// Returns whether a record has a single field that is empty, as the record of the mark alone has.
+/// Returns whether a record consists of a single empty field, as the record of the mark does.
 fn is_mark(row: &ByteRecord) -> bool
     ensures { (result ≡ true) ↔ (fields_of row.now ≡ mark_fields) }
 {
@@ -39,8 +39,8 @@ fn is_mark(row: &ByteRecord) -> bool
     }
 }
 
-/// Creates a CSV reader for a text followed by the mark. The reader takes records of any length,
-/// and treats the first record like the others.
+/// Creates a CSV reader for the text of `input`, followed by the mark. The reader accepts records
+/// with any number of fields, and treats the first record like the others.
 fn reader_of<R: Read>(
     alloc: Global,
     input: R,
@@ -57,7 +57,8 @@ fn reader_of<R: Read>(
         .from_reader(alloc, marked)
 }
 
-/// Reads the next record into `row`. Returns `false` if there was no further record.
+/// Reads the next record into `row`. Returns `true`, or `false` if there was no further record.
+/// Fails with `Read` if reading the text fails, and with `Memory` if an allocation fails.
 #[inline(always)]
 fn read_record<R: Read>(reader: &mut Reader<R>, row: &mut ByteRecord) -> Result<bool, CsvError>
     ensures told { IfOk result
@@ -75,7 +76,7 @@ fn read_record<R: Read>(reader: &mut Reader<R>, row: &mut ByteRecord) -> Result<
 /// A reader that returns the records of a text one after another. It reads one record ahead.
 pub(crate) struct Records<R> {
     reader: Reader<Ends<Chain<R, &'static [u8]>>>,
-    // The next record to return. If the text has no further record, it is that of the mark.
+    // The next record to return, or the record of the mark if the text has no more records.
     ahead: Box<ByteRecord>,
     // The line at which `ahead` begins.
     line: u64,
@@ -95,7 +96,8 @@ impl<R: Drop> Drop for Records<R> {
 }
 
 impl<R: Read + Drop> Records<R> {
-    /// Creates a reader, and reads the first record ahead. Fails if reading or an allocation fails.
+    /// Creates a reader of the text of `input`, and reads the first record ahead. Fails with `Read`
+    /// if `input` fails, and with `Memory` if an allocation fails.
     pub(crate) fn new(alloc: Global, input: R, options: CsvOptions) -> Result<Records<R>, CsvError>
         ensures { MatchResult result
             (λ records. (text : List ℕ) → R.remaining input ≡ Some text
@@ -115,7 +117,8 @@ impl<R: Read + Drop> Records<R> {
     }
 
     /// Moves the next record into `row`. Returns the line at which the record begins, or `None` if
-    /// there are no more records. Fails with `OpenQuote` if the text ends within quotes.
+    /// there are no more records. Fails with `OpenQuote` if the text ends within quotes, with
+    /// `Read` if reading the text fails, and with `Memory` if an allocation fails.
     pub(crate) fn read(&mut self, row: &mut Box<ByteRecord>) -> Result<Option<u64>, CsvError>
         ensures told { MatchResult result
             (λ line. (options : CsvOptions) (text : List ℕ) (rows : List (List (List ℕ)))

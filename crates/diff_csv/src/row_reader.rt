@@ -42,8 +42,8 @@ pub struct RowReader<R> {
     ahead: Ahead,
 }
 
-/// Returns where the first row of a text with a record is found: after a header, or in the first
-/// record.
+/// Returns the source of the first row of a text that has a record: `Later` if the first record is
+/// a header, and else `First`.
 fn first_row(has_header: bool) -> Ahead
     ensures { result ≡ (if has_header then Later else First) }
 {
@@ -74,8 +74,8 @@ fn check_length(row: &ByteRecord, width: usize, line: u64) -> Result<(), CsvErro
 
 impl<R: Read + Drop> RowReader<R> {
     /// Creates a reader of the rows of a text. `first` is the first record, which begins at `line`,
-    /// or `None` if the text has no records. `records` has the records after it. With a header the
-    /// first record is not a row. The only error is `Memory`.
+    /// or `None` if the text has no records. `records` has the records after it. If `has_header` is
+    /// true, the first record is not a row. The only error is `Memory`.
     pub(crate) fn new(
         alloc: Global,
         records: Records<R>,
@@ -110,8 +110,8 @@ impl<R: Read + Drop> RowReader<R> {
         })
     }
 
-    /// Reads the next row from the text into `row`. Returns the line at which the row begins, or
-    /// `None` if there are no more rows.
+    /// Reads the next row from `records` into `row`. Returns the line at which the row begins, or
+    /// `None` if there are no more rows. `ahead` must be `Later`. Fails as `read` does.
     fn read_later(&mut self, row: &mut Box<ByteRecord>) -> Result<Option<u64>, CsvError>
         requires { self.old.ahead ≡ Later }
         ensures told { MatchResult result
@@ -134,8 +134,9 @@ impl<R: Read + Drop> RowReader<R> {
     /// Reads the next row into `row`. Returns the line at which the row begins, or `None` if there
     /// are no more rows.
     ///
-    /// Fails with `Length` if the row has not as many fields as the first record, and with
-    /// `OpenQuote` if the text ends within quotes. Never fails with `Delimiter`. After an error the
+    /// Fails with `Length` if the row has not as many fields as the first record, with `OpenQuote`
+    /// if the text ends within quotes, with `Read` if the reader that gives the text fails, and
+    /// with `Memory` if an allocation fails. Never fails with `Delimiter`. After an error the
     /// results of further calls are not specified.
     pub fn read(&mut self, row: &mut Box<ByteRecord>) -> Result<Option<u64>, CsvError>
         ensures told { MatchResult result

@@ -20,8 +20,8 @@ use std::alloc::{AllocError, Global};
 pub(crate) struct Rows {
     pub(crate) cells: Strings,
     pub(crate) lines: Vec<u64>,
-    // If only the rows of a part are read: the number of each row in the text. The first row is 1.
-    // Else empty.
+    // The number of each row among all rows of the text, from 1 on, if only the rows of a part are
+    // read. Else empty.
     pub(crate) numbers: Vec<u64>,
 }
 
@@ -35,7 +35,7 @@ fn cell(row: &ByteRecord, column: usize) -> &[u8]
     }
 }
 
-/// The cells of a record in the chosen columns, as a list of strings.
+/// The cells of the record `row` in the columns with the indices `columns`, as a list of strings.
 #[derive(Clone, Copy)]
 struct Cells<'a> {
     row: &'a ByteRecord,
@@ -55,8 +55,8 @@ impl<'a> StringList for Cells<'a> {
     }
 }
 
-/// Returns whether a row is read. This is so if `part` is `None` or contains the row. `keys` are
-/// the indices of the key cells in `cells`.
+/// Returns whether the row with the cells `cells` is to be read. This is so if `part` is `None` or
+/// contains the row. `keys` are the indices of the key cells in `cells`.
 #[inline(always)]
 fn is_read(cells: &Cells<'_>, keys: &[usize], part: Option<Part>) -> bool
     ensures { result
@@ -80,7 +80,7 @@ fn push_cells(strings: &mut Strings, cells: &Cells<'_>) -> Result<(), AllocError
     Ok(())
 }
 
-/// Appends the number of a row, but only if `part` is not `None`.
+/// Appends the number of a row to `numbers` if `part` is not `None`, and else does nothing.
 #[inline(always)]
 fn push_number(numbers: &mut Vec<u64>, part: Option<Part>, number: u64) -> Result<(), AllocError>
     ensures { OnOk result
@@ -109,8 +109,9 @@ impl Rows {
         })
     }
 
-    /// Appends the cells and the line of a record, if its row is in the wanted part. `line` is the
-    /// line at which the record begins. `number` is the number of its row in the text, from 1 on.
+    /// Appends the wanted cells of the record `row` and `line`, the line at which it begins, if the
+    /// row is in the wanted part. Else does nothing. `number` is the number of the row in the text,
+    /// from 1 on. It is stored only if a part is wanted.
     pub(crate) fn push(
         &mut self,
         row: &ByteRecord,

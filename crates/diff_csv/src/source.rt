@@ -37,12 +37,13 @@ pub struct CsvTable {
     /// quotes count as line ends. A carriage return without a line feed ends a record but not a
     /// line.
     pub lines: Vec<u64>,
-    /// The number of each row among all rows of the text, from 1 on. `None` if all rows were read,
-    /// not those of one part.
+    /// The number of each row among all rows of the text, from 1 on. `None` if the rows were not
+    /// restricted to a part.
     pub numbers: Option<Vec<u64>>,
 }
 
-/// Returns `Some(numbers)` if only the rows of a part were read, and else `None`.
+/// Returns `Some(numbers)` if `part` is not `None`, that is, if only the rows of a part were read.
+/// Else returns `None`.
 fn numbers_of(numbers: Vec<u64>, part: Option<Part>) -> Option<Vec<u64>>
     ensures { result ≡ option_map (λ _. numbers) part }
 {
@@ -52,7 +53,8 @@ fn numbers_of(numbers: Vec<u64>, part: Option<Part>) -> Option<Vec<u64>>
     }
 }
 
-/// Returns the table of the collected rows. The only error is `Memory`.
+/// Returns a table of the rows that were collected in `rows`, with their lines. `wanted` must be
+/// the choice by which they were collected. The only error is `Memory`.
 fn table_of(alloc: Global, rows: Rows, wanted: &Wanted<'_>) -> Result<CsvTable, CsvError>
     requires { (held : List (List (List ℕ)))
         × HoldsRows wanted.now.columns.now wanted.now.keys.now wanted.now.part rows held }
@@ -78,7 +80,8 @@ fn table_of(alloc: Global, rows: Rows, wanted: &Wanted<'_>) -> Result<CsvTable, 
     }
 }
 
-/// Reads the wanted rows from `reader`, up to the end of the text.
+/// Reads all rows that `reader` returns, and collects those that are wanted. Fails as
+/// `RowReader::read` does, and with `Memory` if an allocation fails.
 fn read_rows<R: Read + Drop>(
     alloc: Global,
     mut reader: RowReader<R>,
@@ -109,6 +112,7 @@ pub struct Source<R> {
     first: Option<ByteRecord>,
     // The line at which the first record begins, or 0 if the text has no records.
     line: u64,
+    // `true` if the first record has the names of the columns.
     has_header: bool,
 }
 
@@ -207,7 +211,8 @@ impl<R: Read + Drop> Source<R> {
     /// text has no such column.
     ///
     /// Fails with `Length` if a record has not as many fields as the first one, even if its row is
-    /// not wanted. Fails with `OpenQuote` if the text ends within quotes. Never fails with
+    /// not wanted. Fails with `OpenQuote` if the text ends within quotes, with `Read` if the reader
+    /// that gives the text fails, and with `Memory` if an allocation fails. Never fails with
     /// `Delimiter`.
     pub fn read(self, alloc: Global, wanted: &Wanted<'_>) -> Result<CsvTable, CsvError>
         ensures shape { IfOk result (HasShape wanted.now.columns.now) }

@@ -9,7 +9,6 @@ pub struct Wanted<'a> {
     pub columns: &'a [usize],
     /// The key columns, as indices into `columns`.
     pub keys: &'a [usize],
-    /// The part of the text whose rows are read: a row belongs to a part by its key. `None`: all
-    /// rows are read.
+    /// The part whose rows are read, or `None` if all rows are read. A row is in a part by its key.
     pub part: Option<Part>,
 }

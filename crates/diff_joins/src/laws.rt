@@ -6,20 +6,21 @@ ghost use Rattle.diff_joins.specs.Merge.{MergesAdded, MergesNone, MergesOn, Merg
 ghost use Rattle.diff_joins.specs.Merge.{MergesRemoved};
 ghost use Rattle.diff_joins.specs.More.{MatchesAdded, MatchesPair, MatchesRemoved};
 
-/// Law: a left table is the rows of `A` followed by those of `B`, and a right table is the rows of
-/// `C` followed by those of `D`. If no row of `A` or `C` has the key of a row of `B` or `D`, the
-/// two tables have the partners of `A` and `C`, and those of `B` and `D`. Their comparison is that
-/// of `A` with `C`, followed by that of `B` with `D`.
+/// Law: a left table has the rows of `A` followed by those of `B`, and a right table has the rows
+/// of `C` followed by those of `D`. Suppose that no row of `A` or `C` has the same key as a row of
+/// `B` or `D`. Then two rows are partners in the two tables exactly if they are partners in `A` and
+/// `C`, or in `B` and `D`. The comparison of the two tables is the comparison of `A` with `C`,
+/// followed by the comparison of `B` with `D`.
 pub fn law_joined()
     ensures partners { JoinsPartners }
     ensures matchings { JoinsMatchings }
     ensures comparisons { JoinsComparisons }
 {}
 
-/// Law: two tables are matched row by row. If both have equally many rows of a key, and each gets
-/// one more row of this key, then these two rows are partners. If one table gets one more row of a
-/// key, and the other table has at most as many rows of this key as the first one had, the row has
-/// no partner.
+/// Law: two tables are matched, and then rows are appended. If both tables have equally many rows
+/// with a key, and each gets one more row with this key, the two new rows are partners. If only one
+/// table gets a new row, and it already has at least as many rows with the same key as the other
+/// table, the new row has no partner.
 pub fn law_one_row_more()
     ensures pair { MatchesPair }
     ensures removed { MatchesRemoved }

@@ -8,7 +8,8 @@ use crate::strings::push_string;
 use diff_words::cells::is_null;
 use std::alloc::AllocError;
 
-/// Appends `null` if `cell` equals the text that `null` has, and else the cell as a JSON string.
+/// Appends the JSON value `null` if `cell` equals `null`, the text that stands for no value.
+/// Appends `cell` as a JSON string if it does not, or if `null` is `None`.
 #[tactic(auto, unfolding(crate::specs::Cells::json_cell))]
 pub(crate) fn push_cell(
     out: &mut Vec<u8>,

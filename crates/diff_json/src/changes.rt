@@ -41,8 +41,9 @@ fn push_change(
     Ok(())
 }
 
-/// Appends the member for a column (`push_change`) if left row `i` and right row `j` differ in it.
-/// `written` is the number of members that the object has. Returns their number after the call.
+/// Appends the member for a column (`push_change`) if left row `i` and right row `j` differ in it,
+/// with a comma before it if `written` is not 0. `written` is the number of members appended so
+/// far. Returns this number after the call.
 fn push_if_changed(
     out: &mut Vec<u8>,
     sides: &Sides,

@@ -18,7 +18,7 @@ fn word_of(side: Side) -> &'static [u8]
     }
 }
 
-/// Appends the JSON line which says that the column `name` is only in the input on this side.
+/// Appends the JSON line which says that only the input on side `side` has the column `name`.
 
 pub fn push_json_column(out: &mut Vec<u8>, side: Side, name: &[u8]) -> Result<(), AllocError>
     ensures { OnOk result (out.new.items ≡ out.old.items ++ column_object side name.now) }

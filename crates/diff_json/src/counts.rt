@@ -18,8 +18,9 @@ use polars_arrays_bytes::binary::BinaryArray;
 use polars_arrays_flat::byte_rows::ByteRows;
 use std::alloc::AllocError;
 
-/// Appends the member `"COLUMN":COUNT` for a column if its count is not 0. `written` is the number
-/// of members that the object has. Returns their number after the call.
+/// Appends the member `"COLUMN":COUNT` for a column if its count in `counts` is not 0, with a comma
+/// before it if `written` is not 0. `written` is the number of members appended so far. Returns
+/// this number after the call.
 fn push_if_counted(
     out: &mut Vec<u8>,
     names: &BinaryArray<i64>,
@@ -46,8 +47,8 @@ fn push_if_counted(
     Ok(written + 1)
 }
 
-/// Appends a member `"COLUMN":COUNT` for each column whose count is not 0, with commas between the
-/// members. `counts` has the count of each column.
+/// Appends the member `"COLUMN":COUNT` for each column whose count in `counts` is not 0, with
+/// commas between the members.
 fn push_by_column(
     out: &mut Vec<u8>,
     names: &BinaryArray<i64>,
@@ -88,8 +89,8 @@ pub fn push_totals(
 }
 
 /// Appends the last line of a report, the JSON line with the counts. `counts` has for each column
-/// the number of row pairs that differ in it. `limit` is the most differences with a line of their
-/// own; the rest are counted as `not_shown`.
+/// the number of row pairs that differ in it. At most `limit` differences have a line of their own;
+/// the others are counted as `not_shown`.
 pub fn push_counts(
     out: &mut Vec<u8>,
     names: &BinaryArray<i64>,

@@ -10,7 +10,7 @@ use diff_words::lists::push_gap;
 use polars_arrays_flat::byte_rows::ByteRows;
 use std::alloc::AllocError;
 
-/// Appends the member `"COLUMN":"CELL"` for a key column of row `i`.
+/// Appends the member `"COLUMN":"CELL"` for a key column of row `i` of `side`.
 fn push_key(
     out: &mut Vec<u8>,
     sides: &Sides,
@@ -31,8 +31,8 @@ fn push_key(
     Ok(())
 }
 
-/// Appends the member `"COLUMN":"CELL"` for each key column of row `i`, with commas between the
-/// members.
+/// Appends the member `"COLUMN":"CELL"` for each key column of row `i` of `side`, with commas
+/// between the members.
 pub(crate) fn push_keys(
     out: &mut Vec<u8>,
     sides: &Sides,

@@ -24,7 +24,7 @@ fn letter_of(c: char) -> Option<u8>
     }
 }
 
-/// Returns the hexadecimal digit of `n`, as a lower case letter from 10 on.
+/// Returns `n` as a hexadecimal digit. The digits from 10 on are lower case letters.
 fn hex_digit(n: u8) -> u8
     requires { n < 16 }
     ensures { result ≡ digit_glyph false n }

@@ -2,8 +2,9 @@
 
 ghost use Rattle.std.specs.Prelude.{◌≡◌, ◌<◌, ◌+◌, min};
 
-/// The number of rows in a block. The rows of a block are first all read and then all processed.
-/// The reads don't depend on each other, so the processor can wait for many of them at once.
+/// The number of rows in a block. The last block may have fewer. The rows of a block are first all
+/// read and then all processed. The reads don't depend on each other, so the processor can wait for
+/// many of them at once.
 const BLOCK: usize = 256;
 
 /// Returns the end (exclusive) of the block that begins at row `start`: 256 rows later, but at most

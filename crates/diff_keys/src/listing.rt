@@ -6,7 +6,8 @@ ghost use Rattle.diff_keys.specs.Rising.{ListsRising};
 
 use std::alloc::{AllocError, Global};
 
-/// Pairs of partners: `left_rows[k]` and `right_rows[k]`.
+/// Pairs of partners. Row `left_rows[k]` of the left table and row `right_rows[k]` of the right
+/// table are partners.
 #[derive(Drop)]
 pub(crate) struct RowPairs {
     pub(crate) left_rows: Vec<u32>,
@@ -14,7 +15,7 @@ pub(crate) struct RowPairs {
 }
 
 /// Returns the pairs of partners in the order of the left rows. `found[i]` is the partner of left
-/// row `i`.
+/// row `i`, or `None` if it has no partner.
 pub(crate) fn pairs_found(alloc: Global, found: &[Option<u32>]) -> Result<RowPairs, AllocError>
     requires { length found.now ≤ 2 ^ 32 }
     ensures { IfOk result
@@ -36,7 +37,7 @@ pub(crate) fn pairs_found(alloc: Global, found: &[Option<u32>]) -> Result<RowPai
 }
 
 /// Returns the left rows without a partner, in ascending order. `found[i]` is the partner of left
-/// row `i`.
+/// row `i`, or `None` if it has no partner.
 pub(crate) fn rows_alone(alloc: Global, found: &[Option<u32>]) -> Result<Vec<u32>, AllocError>
     requires { length found.now ≤ 2 ^ 32 }
     ensures { IfOk result

@@ -10,10 +10,10 @@ use crate::partners::partners;
 use polars_arrays_flat::byte_rows::ByteRows;
 use std::alloc::{AllocError, Global};
 
-/// The result of matching two tables. Row `left_rows[k]` of the left table and row `right_rows[k]`
-/// of the right table are partners. Rows are numbered from 0.
+/// The result of matching the rows of two tables. Row `left_rows[k]` of the left table and row
+/// `right_rows[k]` of the right table are partners. Rows are numbered from 0.
 /// For the left keys `a`, `b`, `a` and the right keys `a`, `c`, `a`, `a`, `left_rows` and
-/// `right_rows` are [0, 2], `removed` is [1], and `added` is [1, 3].
+/// `right_rows` are both [0, 2], `removed` is [1], and `added` is [1, 3].
 #[derive(Drop)]
 pub struct Matching {
     /// The left rows that have a partner, in ascending order.
@@ -26,10 +26,11 @@ pub struct Matching {
     pub added: Vec<u32>,
 }
 
-/// The most rows that a table may have. Row numbers are stored in 32 bits.
+/// The largest number of rows that a table may have. Row numbers are stored in 32 bits.
 const MOST_ROWS: usize = 1 << 32;
 
-/// Matches the rows of two tables of at most 2^32 rows each. The only error is a failed allocation.
+/// Matches the rows of two tables of at most 2^32 rows each by their keys. `left` and `right` are
+/// arrays with the key of each row. The only error is a failed allocation.
 fn match_few<L: ByteRows, R: ByteRows>(
     alloc: Global,
     left: &L,

@@ -14,8 +14,8 @@ pub enum Outcome {
     Different,
 }
 
-/// Returns `Same` if `changed`, `removed` and `added` are empty and `same_columns` is true, and
-/// else `Different`. `changed` lists the matched pairs that differ.
+/// Returns `Same` if `same_columns` is true and `changed`, `matching.removed` and `matching.added`
+/// are empty, and else `Different`. `changed` lists the matched pairs of rows that differ.
 pub fn outcome_of(matching: &Matching, changed: &[usize], same_columns: bool) -> Outcome
     ensures { result ≡ outcome_of matching.now changed.now same_columns }
 {

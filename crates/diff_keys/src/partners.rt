@@ -34,7 +34,7 @@ fn classes_for<L: ByteRows>(
 }
 
 /// Returns for each of `classes` the first right row in this class that still has no partner, or
-/// `None`.
+/// `None` if there is no such row.
 fn heads_of(
     alloc: Global,
     classes: &[usize],
@@ -51,7 +51,7 @@ fn heads_of(
     Ok(rows)
 }
 
-/// Returns `row` if it is a row with this key, and else `None`.
+/// Returns `row` if this row has the key `key`, and else `None`. `keys` has the key of each row.
 #[inline(always)]
 fn row_of_key<R: ByteRows>(keys: &R, row: Option<u32>, key: &[u8]) -> Option<u32>
     requires { IfSome row (λ j. j < length (R.strings keys.now)) }
@@ -64,8 +64,8 @@ fn row_of_key<R: ByteRows>(keys: &R, row: Option<u32>, key: &[u8]) -> Option<u32
     None
 }
 
-/// Returns for each left row in `start..end` a right row with the same key, or `None`. Only the
-/// right row `rows[i - start]` is tried for left row `i`.
+/// Returns for each left row `i` in `start..end` the right row `rows[i - start]` if both have the
+/// same key, and else `None`. `left` and `right` have the keys of the rows.
 fn guesses_for<L: ByteRows, R: ByteRows>(
     alloc: Global,
     left: &L,
@@ -87,8 +87,9 @@ fn guesses_for<L: ByteRows, R: ByteRows>(
     Ok(guesses)
 }
 
-/// Appends the partners of the left rows in `start..end` to `found`, and removes these partners
-/// from `waiting`. `guesses` has right rows that are known to have the key (`guesses_for`).
+/// Appends the partner of each left row in `start..end`, or `None`, to `found`, and removes these
+/// partners from `waiting`. For left row `i`, `classes[i - start]` is the class of its key, and
+/// `guesses[i - start]` is a right row that is known to have the same key, or `None`.
 fn push_partners<L: ByteRows, R: ByteRows>(
     found: &mut Vec<Option<u32>>,
     left: &L,
@@ -117,9 +118,10 @@ fn push_partners<L: ByteRows, R: ByteRows>(
     Ok(())
 }
 
-/// Appends the partners of the left rows in `start..end` to `found`. First the right rows to
-/// compare with are read for all of these left rows. The reads don't depend on each other, so the
-/// processor can wait for many of them at once.
+/// Appends the partner of each left row in `start..end`, or `None`, to `found`, and removes these
+/// partners from `waiting`. Before that, it reads for all of these left rows the right rows to
+/// compare with. The reads don't depend on each other, so the processor can wait for many of them
+/// at once.
 fn push_block<L: ByteRows, R: ByteRows>(
     alloc: Global,
     found: &mut Vec<Option<u32>>,
@@ -143,7 +145,8 @@ fn push_block<L: ByteRows, R: ByteRows>(
     push_partners(found, left, start, end, right, waiting, &classes, &guesses)
 }
 
-/// Appends the partners of all left rows to `found`, block by block.
+/// Appends the partner of each left row, or `None`, to `found`, block by block, and removes these
+/// partners from `waiting`.
 fn push_all<L: ByteRows, R: ByteRows>(
     alloc: Global,
     found: &mut Vec<Option<u32>>,
@@ -166,7 +169,7 @@ fn push_all<L: ByteRows, R: ByteRows>(
 }
 
 /// Returns for each left row its partner, as the number of a right row, or `None` if it has no
-/// partner.
+/// partner. `left` and `right` are arrays with the key of each row.
 pub(crate) fn partners<L: ByteRows, R: ByteRows>(
     alloc: Global,
     left: &L,

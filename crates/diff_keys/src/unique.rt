@@ -18,8 +18,9 @@ pub struct Twice {
     pub again: usize,
 }
 
-/// Returns the first row whose key an earlier row has, together with the earlier row. Returns
-/// `None` if all keys are different. The only error is `Memory`.
+/// Returns the first row with the same key as an earlier row, together with that earlier row.
+/// Returns `None` if all keys are different. `keys` has the key of each row. The only error is
+/// `Memory`.
 pub fn first_twice<K: ByteRows>(alloc: Global, keys: &K) -> Result<Option<Twice>, MatchError>
     ensures { MatchResult result (TellsFirstTwice (K.strings keys.now)) IsMemory }
 {

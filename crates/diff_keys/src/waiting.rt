@@ -15,11 +15,12 @@ use std::alloc::{AllocError, Global};
 pub(crate) struct Waiting {
     // The first row of each class, or `None` if the class has no rows.
     pub(crate) heads: Vec<Option<u32>>,
-    // For each row the next row of its class, or `None` if it is the last one.
+    // For each row in a list, the next row of the list, or `None` if it is the last one.
     pub(crate) next: Vec<Option<u32>>,
 }
 
-/// The number of classes per row of the table. With 4, few rows share a class.
+/// The number of classes for each row of the right table. With 4, few rows with different keys
+/// share a class.
 const CLASSES: usize = 4;
 
 /// Returns the class of a key: its hash modulo `count`, the number of classes.
@@ -31,7 +32,8 @@ pub(crate) fn class_of(key: &[u8], count: usize) -> usize
     (key_hash(key) % count as u64) as usize
 }
 
-/// Creates the lists for all rows of a table. No row has a partner yet.
+/// Creates the lists with all right rows, none of which has a partner yet. `keys` has the key of
+/// each right row.
 pub(crate) fn all_waiting<R: ByteRows>(alloc: Global, keys: &R) -> Result<Waiting, AllocError>
     requires { length (R.strings keys.now) ≤ 2 ^ 32 }
     ensures { IfOk result
@@ -61,9 +63,10 @@ impl Waiting {
         self.heads[class]
     }
 
-    /// Removes the first waiting row that has this key, and returns it. Returns `None` if no
-    /// waiting row has the key. `class` is the class of the key. `guess` is a row that is known to
-    /// have the key, or `None`; it only saves a comparison.
+    /// Removes the first waiting row with the key `key`, and returns it. Returns `None` if no
+    /// waiting row has this key. `keys` has the key of each right row, and `class` is the class of
+    /// `key`. `guess` is a right row that is known to have the key `key`, or `None`. If `guess` is
+    /// the first row of the class, no keys are compared.
     #[inline(always)]
     pub(crate) fn take<R: ByteRows>(
         &mut self,
@@ -89,8 +92,9 @@ impl Waiting {
         self.take_behind(keys, key, head)
     }
 
-    /// Removes the first row with this key after `head`, and returns it, or `None` if there is
-    /// none. `head` is the first row of the class of the key, and has another key.
+    /// Removes the first row after `head` that has the key `key`, and returns it. Returns `None` if
+    /// there is no such row in the list of `head`. `head` is the first row of the class of `key`,
+    /// and has another key. `keys` has the key of each right row.
     #[inline(never)]
     fn take_behind<R: ByteRows>(&mut self, keys: &R, key: &[u8], head: u32) -> Option<u32>
         requires waiting { (left : Keys) × (i : ℕ)

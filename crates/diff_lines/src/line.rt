@@ -29,7 +29,7 @@ pub enum Kind {
     Counts,
 }
 
-/// Returns the kind with this name, or `None` if no kind has it.
+/// Returns the kind that `word` names in JSON, or `None` if it names no kind.
 #[tactic(auto, unfolding(crate::specs::Lines::kind_named))]
 fn kind_named(word: &str) -> Option<Kind>
     ensures { result ≡ kind_named word.now }

@@ -19,8 +19,8 @@ pub fn part_of<'v, 'a>(value: &'v Value<'a>, name: &str) -> Option<&'v Value<'a>
     value.get(name)
 }
 
-/// Returns the members of the object that is the member `name` of `value`, or `None` if there is no
-/// such object.
+/// Returns the members of the object that `value` has as its member `name`. Returns `None` if
+/// `value` has no such member, or if the member is not an object.
 pub fn members_at<'v, 'a>(value: &'v Value<'a>, name: &str) -> Option<&'v Vec<(&'a str, Value<'a>)>>
     requires { HasNumbers (value_view value.now) }
     ensures found { option_map (λ v. members_view v.now.items) result
@@ -35,8 +35,8 @@ pub fn members_at<'v, 'a>(value: &'v Value<'a>, name: &str) -> Option<&'v Vec<(&
     }
 }
 
-/// Returns the items of the array that is the member `name` of `value`, or `None` if there is no
-/// such array.
+/// Returns the items of the array that `value` has as its member `name`. Returns `None` if `value`
+/// has no such member, or if the member is not an array.
 pub fn items_at<'v, 'a>(value: &'v Value<'a>, name: &str) -> Option<&'v Vec<Value<'a>>>
     requires { HasNumbers (value_view value.now) }
     ensures found { option_map (λ v. items_view v.now.items) result
@@ -51,8 +51,8 @@ pub fn items_at<'v, 'a>(value: &'v Value<'a>, name: &str) -> Option<&'v Vec<Valu
     }
 }
 
-/// Returns the text of the number that is the member `name` of `value`, or an empty text if there
-/// is no such number.
+/// Returns the text of the number that `value` has as its member `name`. Returns an empty text if
+/// `value` has no such member, or if the member is not a number.
 #[tactic(auto, unfolding(crate::specs::Parts::number_at))]
 pub fn number_at<'a>(value: &Value<'a>, name: &str) -> &'a str
     ensures { result.now ≡ number_at name.now (value_view value.now) }
@@ -66,8 +66,8 @@ pub fn number_at<'a>(value: &Value<'a>, name: &str) -> &'a str
     }
 }
 
-/// Returns the string that is the member `name` of `value`, or an empty text if there is no such
-/// string.
+/// Returns the string that `value` has as its member `name`. Returns an empty text if `value` has
+/// no such member, or if the member is not a string.
 #[tactic(auto, unfolding(crate::specs::Parts::string_at))]
 pub fn string_at<'a>(value: &Value<'a>, name: &str) -> &'a str
     ensures { result.now ≡ string_at name.now (value_view value.now) }

@@ -43,7 +43,7 @@ fn is_word_byte(byte: u8) -> bool
         && byte != 194
 }
 
-/// Returns whether `is_word_byte` holds for each byte.
+/// Returns whether `is_word_byte` holds for each byte of `bytes`.
 fn are_word_bytes(bytes: &[u8]) -> bool
     ensures { result ≡ list_all is_word_byte bytes.now }
 {
@@ -81,8 +81,8 @@ pub(crate) fn push_name_cell(alloc: Global, out: &mut Vec<u8>, name: &str) -> Re
     Ok(())
 }
 
-/// Appends the value that `change` has on a side (`left` or `right`) as JSON in a code span.
-/// Appends `missing` if it has no member of this name.
+/// Appends the member `side` (`left` or `right`) of `change` as JSON in a code span. Appends
+/// `missing` if `change` has no such member.
 pub(crate) fn push_side(
     alloc: Global,
     out: &mut Vec<u8>,
@@ -146,8 +146,8 @@ fn push_pairs(
     Ok(())
 }
 
-/// Appends the members of the object that is the member `name` of `value`, each in a code span.
-/// Appends nothing if this member is not an object.
+/// Appends the members of the object that `value` has as its member `name`, each as `name=value` in
+/// a code span. Appends nothing if `value` has no such member, or if the member is not an object.
 #[tactic(auto, unfolding(crate::specs::Cells::pairs_cell))]
 pub(crate) fn push_pairs_cell(
     alloc: Global,
@@ -165,8 +165,8 @@ pub(crate) fn push_pairs_cell(
     }
 }
 
-/// Appends the number that is the member `name` of `value`, with its digits unchanged. Appends
-/// nothing if this member is not a number.
+/// Appends the number that `value` has as its member `name`, with its digits unchanged. Appends
+/// nothing if `value` has no such member, or if the member is not a number.
 pub(crate) fn push_number(
     out: &mut Vec<u8>,
     value: &Value<'_>,

@@ -15,14 +15,15 @@ fn is_high_control(first: u8, second: u8) -> bool
 }
 
 /// Returns whether `byte` is written as an escape: a backquote, a bar, the control character
-/// U+007F, or the second byte of a control character whose first byte is `before`.
+/// U+007F, or the second byte of a control character of two bytes. `before` is the byte before
+/// `byte`.
 fn is_escaped(before: u8, byte: u8) -> bool
     ensures { result ≡ is_escaped before byte }
 {
     byte == b'`' || byte == b'|' || byte == 127 || is_high_control(before, byte)
 }
 
-/// Returns the hexadecimal digit of `n`, as a lower case letter from 10 on.
+/// Returns `n` as a hexadecimal digit. The digits from 10 on are lower case letters.
 fn hex_digit(n: u8) -> u8
     requires { n < 16 }
     ensures { result ≡ digit_glyph false n }
@@ -30,7 +31,7 @@ fn hex_digit(n: u8) -> u8
     if n < 10 { b'0' + n } else { b'a' + (n - 10) }
 }
 
-/// Appends the JSON escape `\u00XX` of the character with this code.
+/// Appends the JSON escape `\u00XX` of the character with the code `code`.
 fn push_escape(out: &mut Vec<u8>, code: u8) -> Result<(), AllocError>
     ensures { OnOk result (out.new.items ≡ out.old.items ++ unicode_escape code) }
 {
@@ -40,9 +41,9 @@ fn push_escape(out: &mut Vec<u8>, code: u8) -> Result<(), AllocError>
     Ok(())
 }
 
-/// Appends `byte` or its escape. `before` and `after` are the bytes next to it in the text. Appends
-/// nothing for the first byte of a control character, since the escape of its second byte stands
-/// for both.
+/// Appends `byte` or its escape. `before` and `after` are the bytes before and after `byte` in the
+/// text. A control character of two bytes gets a single escape: nothing is appended for its first
+/// byte, and the escape for its second byte.
 #[tactic(auto, unfolding(crate::specs::Escapes::safe_byte))]
 fn push_byte(out: &mut Vec<u8>, before: u8, byte: u8, after: u8) -> Result<(), AllocError>
     ensures { OnOk result (out.new.items ≡ out.old.items ++ safe_byte before byte after) }
@@ -58,7 +59,7 @@ fn push_byte(out: &mut Vec<u8>, before: u8, byte: u8, after: u8) -> Result<(), A
     Ok(())
 }
 
-/// Returns byte `i`, or 0 if `bytes` is shorter.
+/// Returns byte `i` of `bytes`, or 0 if `bytes` has no byte `i`.
 fn byte_at(bytes: &[u8], i: usize) -> u8
     ensures { result ≡ get_or bytes.now i 0 }
 {

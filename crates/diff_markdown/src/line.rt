@@ -13,8 +13,8 @@ use diff_lines::line::{Kind, read_line};
 use json::{Scratch, Value};
 use std::alloc::{AllocError, Global};
 
-/// Appends the Markdown for a line of a report. The counts go to `head`, everything else is a table
-/// row in `rows`.
+/// Appends the Markdown for `line`, a JSON line of kind `kind` in a report. The counts are appended
+/// to `head`. Any other line becomes table rows, which are appended to `rows`.
 fn push_by_kind(
     alloc: Global,
     head: &mut Vec<u8>,
@@ -37,11 +37,11 @@ fn push_by_kind(
     }
 }
 
-/// Reads a JSON line of a report and appends its Markdown: counts to `head`, table rows to `rows`.
-/// `scratch` is the memory of the JSON reader, which is reused for each line.
+/// Reads `line`, a JSON line of a report, and appends its Markdown: counts to `head`, table rows to
+/// `rows`. `scratch` is the memory of the JSON reader, which is reused for each line.
 ///
-/// Fails with `NoReport` only if `line` is not a line of a report. After an error a part of the
-/// Markdown may be appended.
+/// Fails with `NoReport` if `line` is not a line of a report, and with `Memory` if an allocation
+/// fails. After an error, a part of the Markdown may have been appended.
 pub(crate) fn push_line(
     alloc: Global,
     head: &mut Vec<u8>,

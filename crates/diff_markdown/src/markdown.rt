@@ -13,8 +13,9 @@ use json::Scratch;
 use std::alloc::{AllocError, Global};
 use std::str::from_utf8;
 
-/// Reads the JSON lines of a report. Appends the counts to `head` and the table rows to `rows`.
-/// Fails with `NoReport` if one of `lines` is not a line of a report.
+/// Reads `lines`, the JSON lines of a report. Appends the counts to `head` and the table rows to
+/// `rows`. Fails with `NoReport` if one of `lines` is not a line of a report, and with `Memory` if
+/// an allocation fails.
 fn push_lines(
     alloc: Global,
     head: &mut Vec<u8>,
@@ -37,7 +38,8 @@ fn push_lines(
 }
 
 /// Splits `text` into the JSON lines of a report. Appends the counts to `head` and the table rows
-/// to `rows`. Fails with `NoReport` if a line of `text` is not a line of a report.
+/// to `rows`. Fails with `NoReport` if a line of `text` is not a line of a report, and with
+/// `Memory` if an allocation fails.
 fn push_text(
     alloc: Global,
     head: &mut Vec<u8>,
@@ -55,7 +57,8 @@ fn push_text(
     Ok(())
 }
 
-/// Appends the head of the table and its rows. Appends nothing if `rows` is empty.
+/// Appends the head of the table, and then `rows`, the text of the rows. Appends nothing if `rows`
+/// is empty.
 fn push_table(out: &mut Vec<u8>, rows: &[u8]) -> Result<(), AllocError>
     ensures { OnOk result (out.new.items ≡ out.old.items ++ table rows.now) }
 {
@@ -70,8 +73,9 @@ fn push_table(out: &mut Vec<u8>, rows: &[u8]) -> Result<(), AllocError>
 /// Appends the report of two files as Markdown. `report` is the same report as JSON lines. `left`
 /// and `right` are the names of the files.
 ///
-/// Fails with `NoReport` only if a line of `report` is not JSON, nests deeper than 256 levels or
-/// has no known kind. After an error `out` may have a part of the report.
+/// Fails with `NoReport` if `report` is not UTF-8, or if one of its lines is not JSON, nests deeper
+/// than 256 levels or has no known kind. Fails with `Memory` if an allocation fails. After an
+/// error, `out` may have a part of the report.
 #[tactic(auto, unfolding(crate::specs::Markdown::markdown_of))]
 pub fn push_markdown(
     alloc: Global,

@@ -13,8 +13,8 @@ use diff_lines::parts::{items_at, members_at, string_at};
 use json::Value;
 use std::alloc::{AllocError, Global};
 
-/// Appends the key of a changed row, or its line numbers in both files if it has no key. `line` is
-/// the JSON object of that row in a report.
+/// Appends the key of a changed row, or the line numbers of the row in both files if it has no key.
+/// `line` is the JSON line of the row.
 #[tactic(auto, unfolding(crate::specs::Rows::row_name))]
 fn push_row_name(alloc: Global, out: &mut Vec<u8>, line: &Value<'_>) -> Result<(), AllocError>
     requires { HasNumbers (value_view line.now) }
@@ -33,8 +33,9 @@ fn push_row_name(alloc: Global, out: &mut Vec<u8>, line: &Value<'_>) -> Result<(
     Ok(())
 }
 
-/// Appends the table row of one difference. `name` is the key of the changed row. `part` is the
-/// column or path that differs. `change` has the two values as its members `left` and `right`.
+/// Appends the table row of one difference. `name` is the key of the changed row (`push_row_name`).
+/// `part` is the column or path that differs. `change` has the two values as its members `left` and
+/// `right`.
 #[tactic(auto, unfolding(crate::specs::Rows::change_row))]
 fn push_change(
     alloc: Global,
@@ -59,8 +60,8 @@ fn push_change(
     Ok(())
 }
 
-/// Appends a table row for each of `changes`, which are members: the name of a column, and its
-/// change. `name` is the key of the changed row.
+/// Appends a table row for each of `changes`. Each change is a member: the name of a column, and an
+/// object with the two values. `name` is the key of the changed row (`push_row_name`).
 fn push_member_rows(
     alloc: Global,
     out: &mut Vec<u8>,
@@ -77,8 +78,8 @@ fn push_member_rows(
     Ok(())
 }
 
-/// Appends a table row for each of `changes`, which have the path that differs as their member
-/// `path`. `name` is the key of the changed row.
+/// Appends a table row for each of `changes`. The member `path` of each change is the path that
+/// differs. `name` is the key of the changed row (`push_row_name`).
 fn push_item_rows(
     alloc: Global,
     out: &mut Vec<u8>,
@@ -113,8 +114,9 @@ pub(crate) fn push_changed(
     Ok(())
 }
 
-/// Appends the table rows of a changed row whose `changes` are an object by columns. Appends
-/// nothing if `changes` is not an object.
+/// Appends a table row for each member of the object that `line` has as its member `changes`.
+/// Appends nothing if this member is not an object. `line` is the JSON line of a changed row, and
+/// `name` is the key of the row (`push_row_name`).
 fn push_changes_in_object(
     alloc: Global,
     out: &mut Vec<u8>,
@@ -131,8 +133,9 @@ fn push_changes_in_object(
     }
 }
 
-/// Appends the table rows of a changed row whose `changes` are an array of paths. Appends nothing
-/// if `changes` is not an array.
+/// Appends a table row for each item of the array that `line` has as its member `changes`. Appends
+/// nothing if this member is not an array. `line` is the JSON line of a changed row, and `name` is
+/// the key of the row (`push_row_name`).
 fn push_changes_in_array(
     alloc: Global,
     out: &mut Vec<u8>,
@@ -150,7 +153,7 @@ fn push_changes_in_array(
 }
 
 /// Appends the table row of a row that only one file has: `before`, the key, `between`, the line
-/// number and `behind`.
+/// number and `behind`. `line` is the JSON line of the row, which has the key and the line number.
 #[tactic(auto, unfolding(crate::specs::Rows::lone_row))]
 fn push_lone(
     alloc: Global,
@@ -172,7 +175,7 @@ fn push_lone(
     Ok(())
 }
 
-/// Appends the table row of a row that only the left file has.
+/// Appends the table row of a row that only the left file has. `line` is the JSON line of the row.
 pub(crate) fn push_removed(
     alloc: Global,
     out: &mut Vec<u8>,
@@ -184,7 +187,7 @@ pub(crate) fn push_removed(
     push_lone(alloc, out, b"| removed | ", b" | | line ", b" | |\n", line)
 }
 
-/// Appends the table row of a row that only the right file has.
+/// Appends the table row of a row that only the right file has. `line` is the JSON line of the row.
 pub(crate) fn push_added(
     alloc: Global,
     out: &mut Vec<u8>,
@@ -196,8 +199,8 @@ pub(crate) fn push_added(
     push_lone(alloc, out, b"| added | ", b" | | | line ", b" |\n", line)
 }
 
-/// Returns the last cells of the table row of a column: `missing` for the file that does not have
-/// the column.
+/// Returns the last cells of the table row of a column, with `missing` for the file that does not
+/// have the column: the right file if `only_in` is `left`, and else the left file.
 fn lacking(only_in: &str) -> &'static [u8]
     ensures { result.now ≡ lacking only_in.now }
 {
@@ -208,7 +211,8 @@ fn lacking(only_in: &str) -> &'static [u8]
     }
 }
 
-/// Appends the table row of a column that only one file has.
+/// Appends the table row of a column that only one file has. `line` is the JSON line about the
+/// column.
 #[tactic(auto, unfolding(crate::specs::Rows::column_row))]
 pub(crate) fn push_column(
     alloc: Global,

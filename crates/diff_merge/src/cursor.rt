@@ -57,8 +57,8 @@ pub struct Cursor<'a, R> {
     before: Vec<u8>,
 }
 
-/// Reads the next row into `row`. Returns the line at which it begins, or `None` if there are no
-/// more rows. Errors get the side of the text.
+/// Reads the next row of `reader` into `row`. Returns the line at which the row begins, or `None`
+/// if there are no more rows. Returns an error of `reader` as `Csv` with this side.
 fn read_row<R: Read + Drop>(
     reader: &mut RowReader<R>,
     row: &mut Box<ByteRecord>,
@@ -78,9 +78,9 @@ fn read_row<R: Read + Drop>(
     }
 }
 
-/// Checks that `key` may follow the key `before`. Fails with `Falls` if it is less, and with
-/// `KeyTwice` if it is equal and `unique` is true. `lines` has the lines at which the rows of both
-/// keys begin.
+/// Checks that `key` may follow the key `before`. Fails with `Falls` if `key` is less than
+/// `before`, and with `KeyTwice` if they are equal and `unique` is true. `lines` has the lines at
+/// which the rows with the keys `before` and `key` begin. `side` is stored in the error.
 fn test_order(
     before: &[u8],
     key: &[u8],
@@ -105,7 +105,8 @@ fn test_order(
 }
 
 impl<'a, R: Read + Drop> Cursor<'a, R> {
-    /// Opens a text, and reads its first row ahead.
+    /// Creates a cursor that reads the rows of `source`, and reads the first row ahead. Fails with
+    /// `Csv` if the text can't be read, and with `Memory` if an allocation fails.
     pub fn open(
         alloc: Global,
         source: Source<R>,
@@ -149,7 +150,7 @@ impl<'a, R: Read + Drop> Cursor<'a, R> {
         })
     }
 
-    /// Returns the next row. It stays the next row until `advance` is called.
+    /// Returns the next row, which must exist. It stays the next row until `advance` is called.
     pub fn row(&self) -> Row<'_>
         requires { IsSome self.now.line }
         ensures row { seen_of result ≡ next_seen self.now }
@@ -163,8 +164,11 @@ impl<'a, R: Read + Drop> Cursor<'a, R> {
         }
     }
 
-    /// Moves on by one row. Fails with `Falls` if the key of the new row is less than the key of
-    /// the row before it, and with `KeyTwice` if the keys are equal but must be unique.
+    /// Moves on by one row. There must be a next row.
+    ///
+    /// Fails with `Falls` if the key of the new row is less than the key of the row before it, and
+    /// with `KeyTwice` if the keys are equal but must be unique. Fails with `Csv` if the text can't
+    /// be read, and with `Memory` if an allocation fails.
     pub fn advance(&mut self) -> Result<(), MergeError>
         requires { IsSome self.old.line }
         ensures on { MatchResult result

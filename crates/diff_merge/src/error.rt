@@ -13,14 +13,15 @@ pub enum MergeError {
     /// An allocation failed.
     #[error("out of memory")]
     Memory,
-    /// The text on this side can't be read as CSV.
+    /// The text on this side can't be read as CSV. `cause` has the reason.
     #[error("{cause}")]
     Csv { side: Side, cause: CsvError },
-    /// A row has a lesser key than the row before it. `line` is the line at which the row begins.
+    /// A row of the text on this side has a lesser key than the row before it. `line` is the line
+    /// at which the row begins.
     #[error("the row at line {line} has a lesser key than the row before it")]
     Falls { side: Side, line: u64 },
-    /// Two adjacent rows have the same key, but keys must be unique. `first` and `again` are the
-    /// lines at which the rows begin.
+    /// Two adjacent rows of the text on this side have the same key, but keys must be unique.
+    /// `first` and `again` are the lines at which the two rows begin.
     #[error("the rows at lines {first} and {again} have one key")]
     KeyTwice { side: Side, first: u64, again: u64 },
 }

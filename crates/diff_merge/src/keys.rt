@@ -7,7 +7,7 @@ ghost use Rattle.diff_tables.specs.Keys.{escaped, marked, row_key};
 use crate::row::Row;
 use std::alloc::AllocError;
 
-/// Appends a byte. A zero byte is written as 0 1.
+/// Appends a byte to `out`. A zero byte is written as the two bytes 0 and 1.
 #[inline(always)]
 fn push_byte(out: &mut Vec<u8>, byte: u8) -> Result<(), AllocError>
     ensures { OnOk result (out.new.items ≡ out.old.items ++ marked byte) }
@@ -21,7 +21,8 @@ fn push_byte(out: &mut Vec<u8>, byte: u8) -> Result<(), AllocError>
     Ok(())
 }
 
-/// Appends a byte string, with each zero byte written as 0 1, and then the end mark 0 0.
+/// Appends a byte string to `out`, with each zero byte written as the two bytes 0 and 1, and then
+/// the end mark, which is two zero bytes.
 fn push_escaped(out: &mut Vec<u8>, string: &[u8]) -> Result<(), AllocError>
     ensures { OnOk result (out.new.items ≡ out.old.items ++ escaped string.now) }
 {
@@ -33,8 +34,9 @@ fn push_escaped(out: &mut Vec<u8>, string: &[u8]) -> Result<(), AllocError>
     Ok(())
 }
 
-/// Sets `key` to the key of a row: the cells in the key columns, each encoded by `push_escaped`.
-/// The order of keys is then that of the cells, column by column.
+/// Sets `key` to the encoded key of `row`: the cells with the indices `columns`, each encoded by
+/// `push_escaped`. The byte order of encoded keys is the order of rows by these cells: the first
+/// column decides, and equal cells are decided by the next column.
 pub(crate) fn write_key(
     key: &mut Vec<u8>,
     row: &Row<'_>,

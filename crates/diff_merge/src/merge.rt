@@ -50,7 +50,7 @@ fn next_step<L: Read + Drop, R: Read + Drop>(left: &Cursor<'_, L>, right: &Curso
 }
 
 /// Passes the next rows of both texts to the sink as partners, and advances both texts. The two
-/// rows must have the same key.
+/// rows must have the same key. Fails as `merge` does.
 fn take_pair<L: Read + Drop, R: Read + Drop, S: Sink>(
     left: &mut Cursor<'_, L>,
     right: &mut Cursor<'_, R>,
@@ -83,6 +83,7 @@ fn take_pair<L: Read + Drop, R: Read + Drop, S: Sink>(
 }
 
 /// Passes the next left row to the sink as a row without a partner, and advances the left text.
+/// Fails as `merge` does.
 fn take_removed<L: Read + Drop, R: Read + Drop, S: Sink>(
     left: &mut Cursor<'_, L>,
     right: &Cursor<'_, R>,
@@ -111,6 +112,7 @@ fn take_removed<L: Read + Drop, R: Read + Drop, S: Sink>(
 }
 
 /// Passes the next right row to the sink as a row without a partner, and advances the right text.
+/// Fails as `merge` does.
 fn take_added<L: Read + Drop, R: Read + Drop, S: Sink>(
     left: &Cursor<'_, L>,
     right: &mut Cursor<'_, R>,
@@ -138,8 +140,8 @@ fn take_added<L: Read + Drop, R: Read + Drop, S: Sink>(
     Ok(())
 }
 
-/// Takes one step: passes the next row, or the next two partners, to the sink. Returns `false` if
-/// both texts have no more rows.
+/// Takes one step: passes the next row, or the next two partners, to the sink, and returns `true`.
+/// Returns `false` if both texts have no more rows. Fails as `merge` does.
 fn take_step<L: Read + Drop, R: Read + Drop, S: Sink>(
     left: &mut Cursor<'_, L>,
     right: &mut Cursor<'_, R>,
@@ -181,8 +183,10 @@ fn take_step<L: Read + Drop, R: Read + Drop, S: Sink>(
 }
 
 /// Merges two texts from their current rows to their ends, and passes all these rows to the sink.
-/// Fails with `Falls` if a key is less than the key before it, and with `KeyTwice` if two keys are
-/// equal but must be unique.
+///
+/// Fails with `Falls` if a key is less than the key before it, with `KeyTwice` if two keys are
+/// equal but must be unique, with `Csv` if a text can't be read, and with `Memory` if an allocation
+/// fails, also one of the sink.
 pub fn merge<L: Read + Drop, R: Read + Drop, S: Sink>(
     left: &mut Cursor<'_, L>,
     right: &mut Cursor<'_, R>,

@@ -10,7 +10,9 @@ use diff_tables::string_list::StringList;
 /// A row of a text, as a list of its cells in the columns that are read.
 #[derive(Clone, Copy)]
 pub struct Row<'a> {
+    // The record of the row, with the fields of all columns.
     pub(crate) record: &'a ByteRecord,
+    // The indices of the columns that are read.
     pub(crate) columns: &'a [usize],
     /// The number of the row in the text. The first row is 1.
     pub number: u64,
@@ -29,7 +31,7 @@ fn field(record: &ByteRecord, column: usize) -> &[u8]
 }
 
 impl<'a> Row<'a> {
-    /// Returns cell `i`, or an empty cell if the row has fewer cells.
+    /// Returns cell `i` of the row, counted from 0, or an empty cell if the row has no such cell.
     #[inline(always)]
     pub fn cell(&self, i: usize) -> &[u8]
         ensures { result.now ≡ get_or (cells_of self.now) i [] }

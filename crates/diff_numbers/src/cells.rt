@@ -23,8 +23,9 @@ pub fn number_in(cell: &[u8]) -> Option<&str>
     if is_number(text) { Some(text) } else { None }
 }
 
-/// Appends the normal text of a number to `cells`. `room` is memory that is overwritten. Fails if
-/// the exponent has more than 30 digits.
+/// Appends the normal text of the number `text` to `cells`. `room` is memory that is overwritten.
+/// Fails with `WideExponent` if the exponent has more than 30 digits, and with `Memory` if an
+/// allocation fails.
 fn push_number(cells: &mut Strings, room: &mut Vec<u8>, text: &str) -> Result<(), NumberError>
     requires { is_number text.now ≡ true }
     ensures ok { OnOk result
@@ -38,9 +39,10 @@ fn push_number(cells: &mut Strings, room: &mut Vec<u8>, text: &str) -> Result<()
     Ok(())
 }
 
-/// Appends the text by which a cell is compared: the normal text if `numeric` is true and the cell
-/// is a number, and else the cell itself. Fails with `WideExponent` only if `numeric` is true and
-/// the cell is a number with an exponent of more than 30 digits.
+/// Appends to `cells` the text by which `cell` is compared: the normal text if `numeric` is true
+/// and `cell` is a number, and else `cell` itself. `room` is memory that is overwritten. Fails with
+/// `WideExponent` if `numeric` is true and `cell` is a number with an exponent of more than 30
+/// digits, and with `Memory` if an allocation fails.
 pub(crate) fn push_comparable(
     cells: &mut Strings,
     room: &mut Vec<u8>,

@@ -16,8 +16,8 @@ fn is_named(names: &[&[u8]], name: &[u8]) -> bool
     names.contains(&name)
 }
 
-/// Returns for each column whether its numbers are compared by value. This is so for all columns
-/// except those that are named in `texts`.
+/// Returns for each column whether its numbers are compared by value: `true`, unless `texts`
+/// contains the name of the column. `names` has the names of all columns.
 pub fn number_columns(
     alloc: Global,
     names: &BinaryArray<i64>,

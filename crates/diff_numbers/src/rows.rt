@@ -11,8 +11,10 @@ use diff_tables::strings::Strings;
 use diff_tables::table::Table;
 use json_decimals::error::NumberError;
 
-/// Appends the comparable text of the cell in this row and column. `numeric` has for each column
-/// whether its numbers are compared by value.
+/// Appends to `cells` the text by which the cell of `table` at `row` and `column` is compared.
+/// `numeric[c]` is `true` if the numbers of column `c` are compared by value. `room` is memory that
+/// is overwritten. Fails with `WideExponent` if a number that is compared by value has an exponent
+/// of more than 30 digits, and with `Memory` if an allocation fails.
 fn push_cell(
     cells: &mut Strings,
     room: &mut Vec<u8>,
@@ -37,8 +39,9 @@ fn push_cell(
     }
 }
 
-/// Appends the comparable texts of the cells of a row. `numeric` has for each column whether its
-/// numbers are compared by value.
+/// Appends to `cells` the texts by which the cells of row `row` of `table` are compared.
+/// `numeric[c]` is `true` if the numbers of column `c` are compared by value. `room` is memory that
+/// is overwritten. Fails as `push_cell` does.
 pub(crate) fn push_row(
     cells: &mut Strings,
     room: &mut Vec<u8>,

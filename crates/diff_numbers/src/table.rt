@@ -12,7 +12,8 @@ use diff_tables::strings::Strings;
 use diff_tables::table::Table;
 use std::alloc::Global;
 
-/// Returns the comparable texts of all cells of a table, row by row.
+/// Returns the text by which each cell of `table` is compared, row by row. `numeric[c]` is `true`
+/// if the numbers of column `c` are compared by value. Fails as `comparable_table` does.
 fn comparable_cells(
     alloc: Global,
     table: &Table,
@@ -31,12 +32,13 @@ fn comparable_cells(
     Ok(cells)
 }
 
-/// Returns a table with the comparable text of each cell of `table`: `15e-1` for 1.5 and 1.50.
-/// `numeric` has for each column whether its numbers are compared by value. Cells of other columns
-/// and cells that are not numbers are unchanged.
+/// Returns a table that has, in place of each cell of `table`, the text by which the cell is
+/// compared. `numeric[c]` is `true` if the numbers of column `c` are compared by value. In such a
+/// column, the text of a number is its normal text, such as `15e-1` for 1.5 and 1.50. All other
+/// cells are unchanged.
 ///
-/// Fails with `WideExponent` if a number in such a column has an exponent of more than 30 digits,
-/// and with `Memory` if an allocation fails.
+/// Fails with `WideExponent` if a number that is compared by value has an exponent of more than 30
+/// digits, not counting leading zeros. Fails with `Memory` if an allocation fails.
 pub fn comparable_table(
     alloc: Global,
     table: &Table,

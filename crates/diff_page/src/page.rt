@@ -32,7 +32,7 @@ fn push_untagged(out: &mut Vec<u8>, text: &[u8]) -> Result<(), AllocError>
     Ok(())
 }
 
-/// Appends a JSON line with the names of the two files.
+/// Appends a JSON line with `left` and `right`, the names of the two files.
 fn push_files(out: &mut Vec<u8>, left: &[u8], right: &[u8]) -> Result<(), AllocError>
     ensures { OnOk result (out.new.items ≡ out.old.items ++ files_object left.now right.now) }
 {

@@ -33,7 +33,7 @@ pub fn all_offsets(alloc: Global, near: &[i32], far: &[i64]) -> Result<Vec<i64>,
     Ok(ends)
 }
 
-/// Clones an array with 32-bit offsets as a `Binary` array. The only error is `Memory`.
+/// Clones `array`, and returns the clone as `AnyArray::Binary`. The only error is `Memory`.
 fn near_array(alloc: Global, array: &BinaryArray<i32>) -> Result<AnyArray, ComputeError>
     requires { array.now.validity ≡ None }
     ensures { MatchResult result (HoldsCells false (offset_strings (λ x. x) array.now)) IsMemory }
@@ -42,7 +42,7 @@ fn near_array(alloc: Global, array: &BinaryArray<i32>) -> Result<AnyArray, Compu
     Ok(AnyArray::Binary(copy))
 }
 
-/// Clones an array with 64-bit offsets as a `LargeBinary` array. The only error is `Memory`.
+/// Clones `array`, and returns the clone as `AnyArray::LargeBinary`. The only error is `Memory`.
 fn far_array(alloc: Global, array: &BinaryArray<i64>) -> Result<AnyArray, ComputeError>
     requires { array.now.validity ≡ None }
     ensures { MatchResult result (HoldsCells true (offset_strings (λ x. x) array.now)) IsMemory }
@@ -51,8 +51,8 @@ fn far_array(alloc: Global, array: &BinaryArray<i64>) -> Result<AnyArray, Comput
     Ok(AnyArray::LargeBinary(copy))
 }
 
-/// Returns the strings of an array with 32-bit offsets as an array with 64-bit offsets. `bytes` is
-/// the buffer of the array's bytes, which the result shares. The only error is `Memory`.
+/// Returns the strings of `array` as an array with 64-bit offsets. `bytes` is the buffer of the
+/// bytes of `array`. They are not copied if the buffer is shared. The only error is `Memory`.
 fn widened(
     alloc: Global,
     array: &BinaryArray<i32>,
@@ -70,7 +70,7 @@ fn widened(
     }
 }
 
-/// Returns whether the offsets have 64 bits.
+/// Returns whether the offsets of `cells` have 64 bits.
 pub(crate) fn are_far(cells: LentCells<'_>) -> bool
     ensures { result ≡ are_far cells.entry }
 {
@@ -80,8 +80,9 @@ pub(crate) fn are_far(cells: LentCells<'_>) -> bool
     }
 }
 
-/// Returns an array of the strings, with 64-bit offsets if `wide` is true and else with 32-bit
-/// offsets. The result shares the bytes. The only error is `Memory`.
+/// Returns an array of the byte strings of `cells`, with 64-bit offsets if `wide` is true and else
+/// with 32-bit offsets. `wide` must be true if `cells` has 64-bit offsets. Bytes in a shared buffer
+/// are not copied. The only error is `Memory`.
 pub(crate) fn cell_array(
     alloc: Global,
     cells: LentCells<'_>,

@@ -16,8 +16,9 @@ use polars_arrays_nested::any_array::AnyArray;
 use polars_compare_nested::kernels::array_tot_eq_missing_kernel;
 use std::alloc::Global;
 
-/// Returns a bit for each pair of rows, which is set if the two rows are equal. Pair `p` is row
-/// `left_rows[p]` of `left` and row `right_rows[p]` of `right`. The only error is `Memory`.
+/// Returns a bitmap with one bit for each pair of rows. The bit is 1 if the two rows are equal.
+/// Pair `p` is row `left_rows[p]` of `left` and row `right_rows[p]` of `right`. Null is equal to
+/// null. The only error is `Memory`.
 fn same_pairs(
     alloc: Global,
     left: AnyArray,
@@ -39,8 +40,8 @@ fn same_pairs(
 }
 
 /// Returns the indices of the pairs whose two rows differ, in ascending order. Pair `p` is row
-/// `left_rows[p]` of the left array and row `right_rows[p]` of the right array. The only error is
-/// `Memory`.
+/// `left_rows[p]` of `left` and row `right_rows[p]` of `right`. Null is equal to null. The only
+/// error is `Memory`.
 pub fn changed_pairs(
     alloc: Global,
     left: AnyArray,

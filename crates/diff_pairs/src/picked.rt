@@ -13,8 +13,8 @@ use polars_arrays_nested::dict_keys::DictKeys;
 use polars_arrays_nested::dictionary::DictionaryArray;
 use std::alloc::Global;
 
-/// Returns the rows of `array` with the numbers `rows`, as a dictionary array. Nothing is copied.
-/// The only error is `Memory`.
+/// Returns a dictionary array with the keys `rows` and the values `array`. Its row `k` is row
+/// `rows[k]` of `array`. No row is copied. The only error is `Memory`.
 pub(crate) fn picked(
     alloc: Global,
     array: AnyArray,

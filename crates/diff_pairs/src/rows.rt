@@ -27,7 +27,8 @@ pub struct LentRows<'a> {
     pub cells: LentCells<'a>,
 }
 
-/// Returns an array of `count` lists, each with `width` of the cells. The only error is `Memory`.
+/// Divides `cells` into `count` lists of `width` cells each, and returns the array of these lists.
+/// The only error is `Memory`.
 fn lists_of(
     alloc: Global,
     width: usize,
@@ -48,8 +49,9 @@ fn lists_of(
     }
 }
 
-/// Returns an array with a list of cells for each row. The cells have 64-bit offsets if `wide` is
-/// true, and else 32-bit offsets. No cell is copied. The only error is `Memory`.
+/// Returns an array that has for each of `rows` the list of its cells. The cells have 64-bit
+/// offsets if `wide` is true, and else 32-bit offsets. `wide` must be true if `rows` has 64-bit
+/// offsets. No byte is copied if the buffers of the cells are shared. The only error is `Memory`.
 fn list_array(
     alloc: Global,
     rows: LentRows<'_>,
@@ -67,8 +69,10 @@ fn list_array(
     }
 }
 
-/// Returns the indices of the pairs that differ, in ascending order. The left rows are given as an
-/// array of lists, whose cells have 64-bit offsets if `wide` is true. The only error is `Memory`.
+/// Returns the indices of the pairs whose two rows have different cells, in ascending order. Pair
+/// `p` is list `left_rows[p]` of `left` (the cells of a left row) and row `right_rows[p]` of
+/// `right`. The cells of `left` have 64-bit offsets if `wide` is true, and else 32-bit offsets. The
+/// only error is `Memory`.
 fn changed_lists(
     alloc: Global,
     left: FixedSizeListArray,
@@ -105,8 +109,8 @@ fn changed_lists(
 }
 
 /// Returns the indices of the pairs whose two rows have different cells, in ascending order. Pair
-/// `p` is row `left_rows[p]` of `left` and row `right_rows[p]` of `right`. No cell is copied. The
-/// only error is `Memory`.
+/// `p` is row `left_rows[p]` of `left` and row `right_rows[p]` of `right`. No byte of a cell is
+/// copied if the buffers of the cells are shared. The only error is `Memory`.
 pub fn changed_rows(
     alloc: Global,
     left: LentRows<'_>,
@@ -126,7 +130,7 @@ pub fn changed_rows(
         (strings_of right.entry.cells) left_rows.items right_rows.items) (length left_rows.items)
         changed.items) IsMemory }
 {
-    // Both arrays must have the same type, so both get the same offsets.
+    // The kernel compares arrays of the same type, so both get offsets of the same width.
     let wide = are_far(left.cells) || are_far(right.cells);
     match list_array(alloc, left, wide) {
         Ok(left) => changed_lists(alloc, left, left_rows, right, right_rows, wide),

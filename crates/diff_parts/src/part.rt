@@ -47,7 +47,7 @@ impl Part {
         hash % self.count == self.index % self.count
     }
 
-    /// Returns whether rows with this key are in the part.
+    /// Returns whether rows with the encoded key `key` are in the part.
     pub fn has_key(self, key: &[u8]) -> bool
         ensures { result ≡ in_part self key.now }
     {

@@ -23,7 +23,7 @@ fn after_byte(hash: u64, byte: u8) -> u64
     (hash ^ u64::from(byte)).wrapping_mul(PRIME)
 }
 
-/// Returns the hash after adding one byte of a cell. A zero byte is added as 0 1.
+/// Returns the hash after adding one byte of a cell. A zero byte is added as the two bytes 0 and 1.
 #[inline(always)]
 fn after_marked(hash: u64, byte: u8) -> u64
     ensures { result ≡ fold hash_step hash (marked byte) }
@@ -35,7 +35,7 @@ fn after_marked(hash: u64, byte: u8) -> u64
     after
 }
 
-/// Returns the hash after adding a cell and its end mark 0 0.
+/// Returns the hash after adding a cell and its end mark, which is two zero bytes.
 #[inline(always)]
 fn after_cell(hash: u64, cell: &[u8]) -> u64
     ensures { result ≡ fold hash_step hash (escaped cell.now) }
@@ -47,7 +47,7 @@ fn after_cell(hash: u64, cell: &[u8]) -> u64
     after_byte(after_byte(after, 0), 0)
 }
 
-/// Returns the cell in a column, or an empty cell if the row has no such column.
+/// Returns the cell of a row at index `column`, or an empty cell if the row has fewer cells.
 #[inline(always)]
 fn cell_at<S: StringList>(cells: &S, column: usize) -> &[u8]
     ensures { result.now ≡ get_or (S.strings cells.now) column [] }
@@ -58,8 +58,8 @@ fn cell_at<S: StringList>(cells: &S, column: usize) -> &[u8]
     &[]
 }
 
-/// Returns the hash of the key of a row. The result equals `key_hash` of the encoded key, but the
-/// key is not stored. `keys` are the indices of the key columns in `cells`.
+/// Returns the hash of the key of the row with the cells `cells`. `keys` are the indices of the key
+/// cells in `cells`. The result equals `key_hash` of the encoded key, but the key is not stored.
 fn row_hash<S: StringList>(cells: &S, keys: &[usize]) -> u64
     ensures { result ≡ key_hash (row_key keys.now (S.strings cells.now)) }
 {
@@ -71,8 +71,8 @@ fn row_hash<S: StringList>(cells: &S, keys: &[usize]) -> u64
 }
 
 impl Part {
-    /// Returns whether a row with these cells is in the part. Only the cells in the key columns
-    /// decide. `keys` are the indices of these columns in `cells`.
+    /// Returns whether the row with the cells `cells` is in the part. `keys` are the indices of the
+    /// key cells in `cells`. Other cells do not matter.
     pub fn has_row<S: StringList>(self, cells: &S, keys: &[usize]) -> bool
         ensures { result ≡ in_part self (row_key keys.now (S.strings cells.now)) }
     {

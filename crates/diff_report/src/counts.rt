@@ -26,7 +26,7 @@ fn count_pair(counts: &mut Vec<usize>, sides: &Sides, i: usize, j: usize)
     }
 }
 
-/// Returns for each column the number of changed pairs that differ in it.
+/// Returns, for each column, the number of changed pairs of `comparison` that differ in it.
 fn counts_of(
     alloc: Global,
     sides: &Sides,
@@ -48,7 +48,7 @@ fn counts_of(
     Ok(counts)
 }
 
-/// Returns for each column the number of changed pairs that differ in it.
+/// Returns, for each column, the number of changed pairs of `comparison` that differ in it.
 pub fn count_by_column(
     alloc: Global,
     sides: &Sides,

@@ -19,8 +19,8 @@ pub enum Alone {
     Added,
 }
 
-/// Appends the line of a changed pair, left row `i` and right row `j`: `~`, the key, and for each
-/// column that differs `COLUMN LEFT -> RIGHT`.
+/// Appends the line of a changed pair, left row `i` and right row `j`: `~`, the key, and then
+/// `COLUMN LEFT -> RIGHT` for each column in which the two rows differ.
 #[tactic(auto, unfolding(diff_words::specs::Colors::painted))]
 pub fn push_pair_line(
     out: &mut Vec<u8>,

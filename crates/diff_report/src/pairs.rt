@@ -54,9 +54,9 @@ fn push_change(
     Ok(())
 }
 
-/// Appends `COLUMN LEFT -> RIGHT` for a column if left row `i` and right row `j` differ in it.
-/// `written` is the number of columns that were appended before. Returns their number after the
-/// call.
+/// Appends `COLUMN LEFT -> RIGHT` for a column if left row `i` and right row `j` differ in it, with
+/// a comma before it if `written` is not 0. `written` is the number of columns appended so far.
+/// Returns this number after the call.
 fn push_if_changed(
     out: &mut Vec<u8>,
     sides: &Sides,

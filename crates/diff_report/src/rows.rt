@@ -12,7 +12,7 @@ use diff_words::words::push_word;
 use polars_arrays_flat::byte_rows::ByteRows;
 use std::alloc::AllocError;
 
-/// Appends `COLUMN=CELL` for a key column of row `i`.
+/// Appends `COLUMN=CELL` for a key column of row `i` of `side`.
 fn push_key(
     out: &mut Vec<u8>,
     sides: &Sides,
@@ -33,7 +33,7 @@ fn push_key(
     Ok(())
 }
 
-/// Appends `COLUMN=CELL` for each key column of row `i`, with commas between the columns.
+/// Appends `COLUMN=CELL` for each key column of row `i` of `side`, with commas between the columns.
 fn push_keys(out: &mut Vec<u8>, sides: &Sides, side: &Side, i: usize) -> Result<(), AllocError>
     requires sides { AreSides sides.now }
     requires side { IsSide (naming_of sides.now) side.now }
@@ -50,8 +50,8 @@ fn push_keys(out: &mut Vec<u8>, sides: &Sides, side: &Side, i: usize) -> Result<
     Ok(())
 }
 
-/// Appends the key of row `i`: `COLUMN=CELL` for each key column. If there are no key columns,
-/// appends `row N`, where the first row is 1.
+/// Appends the key of row `i` of `side`: `COLUMN=CELL` for each key column. If there are no key
+/// columns, appends `row N`, where the first row is 1.
 #[tactic(auto, unfolding(crate::specs::Rows::row_text))]
 pub(crate) fn push_row(
     out: &mut Vec<u8>,

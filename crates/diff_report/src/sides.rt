@@ -23,7 +23,8 @@ pub struct Side {
 }
 
 impl Side {
-    /// Returns the number of row `i` among all rows of the file. The first row is 1.
+    /// Returns the number that row `i` of the table has among all rows of the file. The first row
+    /// of the file is 1.
     pub fn number(&self, i: usize) -> u64
         requires row { i < length self.now.table.rows }
         requires side { (n : Naming) × IsSide n self.now }
@@ -36,8 +37,8 @@ impl Side {
     }
 }
 
-/// Two tables to compare in place of two others. Each cell replaces the cell in the same row and
-/// column.
+/// Two tables to compare in place of the left and right table of `Sides`, with the same numbers of
+/// rows and columns. Each cell is compared in place of the cell in the same row and column.
 #[derive(Drop)]
 pub struct Comparables {
     pub left: Table,
@@ -64,8 +65,8 @@ pub struct Sides {
 }
 
 impl Sides {
-    /// Returns the table that is compared in place of the left table: that of `comparables`, or the
-    /// left table itself if `comparables` is `None`.
+    /// Returns the table to compare for the left side: the left table of `comparables`, or the
+    /// table of `left` if `comparables` is `None`.
     pub fn compared_left(&self) -> &Table
         requires { AreSides self.now }
         ensures rows { result.now.rows ≡ compared_left self.now }
@@ -78,8 +79,8 @@ impl Sides {
         }
     }
 
-    /// Returns the table that is compared in place of the right table: that of `comparables`, or
-    /// the right table itself if `comparables` is `None`.
+    /// Returns the table to compare for the right side: the right table of `comparables`, or the
+    /// table of `right` if `comparables` is `None`.
     pub fn compared_right(&self) -> &Table
         requires { AreSides self.now }
         ensures rows { result.now.rows ≡ compared_right self.now }

@@ -48,8 +48,8 @@ impl Totals {
         }
     }
 
-    /// Returns the number of differences: changed, removed and added. The sum has 128 bits, so that
-    /// it can't overflow.
+    /// Returns the number of differences: the sum of `changed`, `removed` and `added`. The sum has
+    /// 128 bits, so that it can't overflow.
     pub fn differences(&self) -> u128
         ensures { (c : Comparison) → AreTotalsOf c self.now
             → result ≡ difference_count c.matching (length c.changed.items) }
@@ -58,17 +58,18 @@ impl Totals {
     }
 }
 
-/// Returns the number of differences if `changed` of the matched pairs differ: these, and the rows
-/// without a partner. The sum has 128 bits, so that it can't overflow.
+/// Returns the number of differences: the sum of `changed`, the number of matched pairs that
+/// differ, and the number of left and right rows without a partner. The sum has 128 bits, so that
+/// it can't overflow.
 pub fn difference_count(matching: &Matching, changed: usize) -> u128
     ensures { result ≡ difference_count matching.now changed }
 {
     changed as u128 + matching.removed.len() as u128 + matching.added.len() as u128
 }
 
-/// Appends `.. and N more` if `count` is greater than `limit`, where N is the excess. Appends
-/// nothing if `limit` is 0. `count` is the number of differences, and `limit` the most that have a
-/// line.
+/// Appends `.. and N more` and a line feed if `count`, the number of differences, is greater than
+/// `limit`, the most differences that have a line. N is `count - limit`. Appends nothing if `limit`
+/// is 0.
 #[tactic(auto, unfolding(crate::specs::Summary::rest_text))]
 pub fn push_rest(out: &mut Vec<u8>, count: u128, limit: usize) -> Result<(), AllocError>
     ensures { OnOk result (out.new.items ≡ out.old.items ++ rest_text limit count) }
@@ -104,8 +105,9 @@ fn push_totals(out: &mut Vec<u8>, totals: &Totals) -> Result<(), AllocError>
     Ok(())
 }
 
-/// Appends `COLUMN COUNT` for a column if its count is not 0. `written` is the number of columns
-/// that were appended before. Returns their number after the call.
+/// Appends `COLUMN COUNT` for a column if its count in `counts` is not 0, with a comma before it if
+/// `written` is not 0. `written` is the number of columns appended so far. Returns this number
+/// after the call.
 fn push_if_counted(
     out: &mut Vec<u8>,
     names: &BinaryArray<i64>,
@@ -133,7 +135,7 @@ fn push_if_counted(
     Ok(written + 1)
 }
 
-/// Appends `By column:` and then `COLUMN COUNT` for each column whose count is not 0.
+/// Appends `By column:`, and `COLUMN COUNT` for each column whose count in `counts` is not 0.
 fn push_by_column(
     out: &mut Vec<u8>,
     names: &BinaryArray<i64>,

@@ -25,8 +25,9 @@ use polars_arrays_bytes::binary::BinaryArray;
 use polars_arrays_flat::byte_rows::ByteRows;
 use std::alloc::{AllocError, Global};
 
-/// Returns the error about a number in this column whose exponent has more than 30 digits. `line`
-/// is the line at which its row begins.
+/// Returns the error `WideExponent` about a number in the column with index `column`. `line` is the
+/// line at which the number's row begins, and `names` has the names of the columns. If the name
+/// can't be copied, returns `Memory` instead.
 fn wide_exponent(
     alloc: Global,
     names: &BinaryArray<i64>,
@@ -43,9 +44,10 @@ fn wide_exponent(
     }
 }
 
-/// Returns the table to compare in place of an input, with each number in its normal form.
-/// `numeric` has for each column whether its numbers are compared by value. Fails if a number has
-/// an exponent of more than 30 digits.
+/// Returns the table to compare in place of `input`: each number in a numeric column is replaced by
+/// its normal form. `numeric` has for each column whether it is numeric, and `names` has the names
+/// of the columns. Fails with `WideExponent` if such a number has an exponent of more than 30
+/// digits, and with `Memory` if an allocation fails.
 fn table_by(
     alloc: Global,
     names: &BinaryArray<i64>,
@@ -67,8 +69,9 @@ fn table_by(
     }
 }
 
-/// Returns for each column whether its numbers are compared by value. Without `--numbers` no column
-/// is.
+/// Returns for each column whether it is numeric, that is, whether its numbers are compared by
+/// value. `options.numbers` lists the columns that are not numeric. If it is `None`, no column is
+/// numeric.
 fn find_numeric_columns(
     alloc: Global,
     names: &BinaryArray<i64>,
@@ -92,8 +95,8 @@ fn find_numeric_columns(
     }
 }
 
-/// Returns the inputs as tables in which each number of a numeric column has its normal form (see
-/// `numeric_columns`). Tolerances are not applied.
+/// Returns the tables of both inputs, with each number of a numeric column in its normal form (see
+/// `find_numeric_columns`). Tolerances are not applied. The errors are those of `table_by`.
 fn tables_by(
     alloc: Global,
     names: &BinaryArray<i64>,
@@ -113,8 +116,10 @@ fn tables_by(
     Ok(Comparables { left, right })
 }
 
-/// Returns `tables` with changes in the right table: each cell that a tolerance allows to differ
-/// from its partner's cell is replaced by that cell. Such cells are then equal.
+/// Applies tolerances: returns `tables` with each cell of the right table replaced by the cell of
+/// its left partner if a tolerance allows the two to differ. `keys` are the key columns, by which
+/// rows are matched. Fails with `TooManyRows` if a table has more than 2^32 rows, and with `Memory`
+/// if an allocation fails.
 fn with_tolerances(
     alloc: Global,
     names: &BinaryArray<i64>,
@@ -137,8 +142,8 @@ fn with_tolerances(
     }
 }
 
-/// Returns the tables to compare in place of the inputs if there are no tolerances. With
-/// `--numbers` these have each number in its normal form. Without it the result is `None`: the
+/// Returns the tables to compare in place of the inputs if there are no tolerances. If
+/// `options.numbers` is set, they are the tables of `tables_by`. Otherwise returns `None`: the
 /// inputs are compared unchanged.
 #[tactic(auto, using(crate::proofs::ComparableLemmas::exactly))]
 fn compared_without_tolerances(
@@ -162,8 +167,9 @@ fn compared_without_tolerances(
     }
 }
 
-/// Returns the tables to compare in place of the inputs, because of `--numbers` or tolerances.
-/// Without both the result is `None`: the inputs are compared unchanged.
+/// Returns the tables to compare in place of the inputs if the options have `numbers` or
+/// `tolerances`. Otherwise returns `None`: the inputs are compared unchanged. `keys` are the key
+/// columns, as indices into `names`.
 #[tactic(auto, using(crate::proofs::ComparableLemmas::compared))]
 pub(crate) fn compared_by(
     alloc: Global,

@@ -52,7 +52,8 @@ fn fault_of(error: ColumnError) -> RunError
     }
 }
 
-/// Reads the names of the columns of two inputs, and matches the columns by name.
+/// Reads the names of the columns of two inputs, and matches the columns by name. Fails like
+/// `heads_of`, but never with `Choice`.
 fn matched<L: Read + Drop, R: Read + Drop>(
     alloc: Global,
     left: &Source<L>,

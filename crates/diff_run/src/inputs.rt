@@ -43,7 +43,7 @@ pub fn opened<R: Read + Drop>(
 }
 
 /// Reads the rows of an input, each with its cells in `columns`. If the options have a part, reads
-/// only the rows of this part.
+/// only the rows of this part. The error is `Csv` with this side.
 fn read_rows<R: Read + Drop>(
     alloc: Global,
     source: Source<R>,
@@ -73,7 +73,7 @@ fn read_rows<R: Read + Drop>(
 }
 
 /// Reads the rows of two inputs, each with its cells in the columns that are compared. If the
-/// options have a part, reads only the rows of this part.
+/// options have a part, reads only the rows of this part. The error is `Csv`.
 pub(crate) fn read_both<L: Read + Drop, R: Read + Drop>(
     alloc: Global,
     left: Source<L>,

@@ -21,7 +21,7 @@ use diff_words::formats::Format;
 use polars_arrays_bytes::binary::BinaryArray;
 use std::alloc::AllocError;
 
-/// Appends the line of matched pair `k`, whose rows differ.
+/// Appends the line of the matched pair at index `k` of `matching`. The rows of the pair differ.
 fn push_pair_at(
     out: &mut Vec<u8>,
     format: Format,
@@ -44,7 +44,8 @@ fn push_pair_at(
     }
 }
 
-/// Appends the line of row `i` of `side`, which has no partner.
+/// Appends the line of row `i` of `side`, which has no partner. `alone` says whether the row is
+/// reported as removed or as added.
 fn push_row(
     out: &mut Vec<u8>,
     format: Format,
@@ -67,7 +68,7 @@ fn push_row(
     }
 }
 
-/// Appends the lines of the first `limit` changed pairs.
+/// Appends the lines of the first `limit` changed pairs of `comparison`.
 fn push_pairs(
     out: &mut Vec<u8>,
     format: Format,
@@ -89,7 +90,8 @@ fn push_pairs(
     Ok(())
 }
 
-/// Appends the lines of the first `limit` of `rows`, which are rows of `side` without a partner.
+/// Appends the lines of the first `limit` of `rows`, which are indices of rows of `side` without a
+/// partner. `alone` says whether the rows are reported as removed or as added.
 fn push_rows(
     out: &mut Vec<u8>,
     format: Format,
@@ -137,9 +139,10 @@ pub(crate) fn push_lines(
     Ok(())
 }
 
-/// Appends the end of a report. In text these are the number of differences without a line, and the
-/// summary. In JSON it is the line with the counts. `counts` has for each column the number of
-/// changed pairs that differ in it.
+/// Appends the end of a report. A text report ends with the number of differences without a line
+/// (see `push_rest`) and the summary, a JSON report with the line of counts. `names` has the names
+/// of the columns, and `counts` for each column the number of changed pairs that differ in it.
+/// `limit` is the most differences that have a line.
 pub fn push_end(
     out: &mut Vec<u8>,
     format: Format,

@@ -12,8 +12,7 @@ use polars_arrays_bytes::binary::BinaryArray;
 use polars_arrays_flat::byte_rows::ByteRows;
 use std::alloc::AllocError;
 
-/// Appends the line about a column that only one input has, as text. `input` is the name of this
-/// input.
+/// Appends the text line which says that only the input named `input` has the column `name`.
 #[tactic(auto, unfolding(crate::specs::Lone::lone_line))]
 fn push_lone_line(out: &mut Vec<u8>, input: &[u8], name: &[u8]) -> Result<(), AllocError>
     ensures { OnOk result (out.new.items ≡ out.old.items ++ lone_line input.now name.now) }
@@ -26,8 +25,8 @@ fn push_lone_line(out: &mut Vec<u8>, input: &[u8], name: &[u8]) -> Result<(), Al
     Ok(())
 }
 
-/// Appends the line about a column that only one input has, as text or JSON. `input` is the name of
-/// this input, which is on this side.
+/// Appends the line, as text or JSON, which says that only the input on this side has the column
+/// `name`. `input` is the name of this input, which JSON leaves out.
 fn push_alone_line(
     out: &mut Vec<u8>,
     format: Format,
@@ -44,8 +43,9 @@ fn push_alone_line(
     }
 }
 
-/// Appends a line for each of `columns`, which only one input has. `names` has the names of all
-/// columns of this input.
+/// Appends a line for each of `columns`, which only the input on this side has. They are indices
+/// into `names`, which has the names of all columns of this input. `input` is the name of the
+/// input.
 pub(crate) fn push_alone(
     out: &mut Vec<u8>,
     format: Format,

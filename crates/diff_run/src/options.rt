@@ -25,8 +25,8 @@ pub struct Options<'a> {
     pub part: Option<Part>,
     /// The text of a cell that stands for no value. `None`: no cell does.
     pub null: Option<&'a [u8]>,
-    /// The most changed, removed and added rows that get a line of their own. With 0 none of them
-    /// does.
+    /// The most differences (changed, removed and added rows together) that get a line of their
+    /// own.
     pub limit: usize,
     /// `true` if columns that only one input has are neither reported nor counted as a difference.
     pub common: bool,

@@ -38,8 +38,8 @@ pub struct Report {
     pub outcome: Outcome,
 }
 
-/// Returns the lines about columns that only one input has. They are left out with the option
-/// `common`.
+/// Returns the lines about columns that only one input has. The text is empty if the option
+/// `common` is set.
 pub fn columns_text(
     alloc: Global,
     heads: &Heads,
@@ -78,7 +78,8 @@ pub fn columns_text(
     Ok(text)
 }
 
-/// Matches and compares the rows of two tables.
+/// Matches the rows of the two sides by key, and compares the matched rows. Fails with
+/// `TooManyRows` if a table has more than 2^32 rows, and with `Memory` if an allocation fails.
 fn compared(alloc: Global, sides: &Sides) -> Result<Comparison, RunError>
     requires { AreSides sides.now }
     ensures { MatchResult result
@@ -129,7 +130,9 @@ fn outcome_of(options: &Options<'_>, layout: &Layout, comparison: &Comparison) -
     outcome::outcome_of(&comparison.matching, &comparison.changed, is_shared)
 }
 
-/// Compares two tables, and returns the report and the outcome.
+/// Compares the two sides, and returns the report and the outcome. Fails with `KeyTwice` if keys
+/// must be unique but are not, with `TooManyRows` if a table has more than 2^32 rows, and with
+/// `Memory` if an allocation fails.
 pub(crate) fn report_of(
     alloc: Global,
     sides: &Sides,

@@ -21,7 +21,7 @@ use std::io::{Read, Write};
 pub struct Input<'a, R> {
     /// The name of the input in the report.
     pub name: &'a [u8],
-    /// The reader that gives the CSV text.
+    /// The reader that gives the text: CSV, or JSON documents for `document_run`.
     pub reader: R,
 }
 
@@ -52,8 +52,9 @@ fn report_on<L: Read + Drop, R: Read + Drop>(
     report_of(alloc, &sides, &heads, files, options)
 }
 
-/// Compares two CSV inputs, and writes the report to `out`. If the error is not `Write`, nothing
-/// was written: the inputs are read completely and the report is made in memory first.
+/// Compares two CSV inputs, writes the report to `out`, and returns the outcome. The inputs are
+/// read completely and the report is made in memory before anything is written. So if the error is
+/// not `Write`, nothing was written.
 pub fn run<L: Read + Drop, R: Read + Drop, W: Write>(
     alloc: Global,
     left: Input<'_, L>,

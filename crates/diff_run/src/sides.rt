@@ -57,7 +57,8 @@ fn copied(alloc: Global, text: Option<&[u8]>) -> Result<Option<Vec<u8>>, AllocEr
     }
 }
 
-/// Returns the data of a report besides the rows. The only error is `Memory`.
+/// Returns the data of a report besides the rows, as copies from `heads`, `files` and `options`.
+/// The only error is `Memory`.
 pub fn frame_of(
     alloc: Global,
     heads: &Heads,
@@ -83,8 +84,9 @@ pub fn frame_of(
     })
 }
 
-/// Reads the rows of two inputs whose columns are matched, and makes the tables to compare in their
-/// place if needed.
+/// Reads the rows of two inputs, and returns the two sides of their report. `heads` has the matched
+/// columns of the inputs. If the options have numbers or tolerances, the result also has the tables
+/// to compare in place of the inputs (see `compared_by`).
 pub(crate) fn sides_of<L: Read + Drop, R: Read + Drop>(
     alloc: Global,
     left: Source<L>,

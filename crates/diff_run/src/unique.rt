@@ -16,8 +16,9 @@ use diff_tables::compare::key_twice;
 use diff_tables::table::Table;
 use std::alloc::Global;
 
-/// Checks that no two rows of a table have the same key, and fails with `KeyTwice` if two have.
-/// `lines` has the line at which each row begins.
+/// Checks that no two rows of `table` have the same key. `keys` are the key columns, and `lines`
+/// has the line at which each row begins. Fails with `KeyTwice` if two rows have the same key, and
+/// with `Memory` if an allocation fails.
 fn test_side(
     alloc: Global,
     table: &Table,
@@ -42,9 +43,9 @@ fn test_side(
     }
 }
 
-/// Checks on both sides that no two rows have the same key, if the option `unique` is set. The keys
-/// are those of the tables that are compared: if numbers are compared by value, 1.5 and 1.50 are
-/// the same key.
+/// If the option `unique` is set, checks on both sides that no two rows have the same key, with the
+/// errors of `test_side`. The keys are those of the tables that are compared: if numbers are
+/// compared by value, 1.5 and 1.50 are the same key.
 pub(crate) fn test_keys(alloc: Global, sides: &Sides, options: &Options<'_>) -> Result<(), RunError>
     requires { AreSides sides.now }
     ensures { MatchResult result

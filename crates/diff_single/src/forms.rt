@@ -30,7 +30,8 @@ pub(crate) fn push_pair_of(
     }
 }
 
-/// Appends the line of row `i` of `side`, which has no partner.
+/// Appends the line of row `i` of `side`, which has no partner. `alone` says whether the row is
+/// reported as removed or as added.
 pub(crate) fn push_row(
     out: &mut Vec<u8>,
     format: Format,

@@ -28,7 +28,7 @@ fn table_of<L: StringList>(alloc: Global, cells: &L) -> Result<Table, AllocError
     }
 }
 
-/// Returns a side whose table has one row.
+/// Returns a side with this name and with `row` as the only row of its table.
 fn side_of<L: StringList>(alloc: Global, name: &[u8], row: &Row<'_, L>) -> Result<Side, AllocError>
     ensures { IfOk result
         (IsOneRow name.now (L.strings row.now.cells.now) row.now.number row.now.line) }
@@ -66,7 +66,8 @@ fn copied(alloc: Global, text: Option<&[u8]>) -> Result<Option<Vec<u8>>, AllocEr
     }
 }
 
-/// Returns two sides with one row each.
+/// Returns the two sides of a report with `left` as the only left row and `right` as the only right
+/// row. The names and options are copied from `frame`.
 pub(crate) fn sides_of<'r, L: StringList, R: StringList>(
     alloc: Global,
     frame: &Frame<'_>,

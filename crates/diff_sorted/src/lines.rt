@@ -52,8 +52,8 @@ impl Lines {
         Ok(())
     }
 
-    /// Returns the first `room` lines, or all if there are fewer. `room` must be at most the limit
-    /// of stored lines.
+    /// Returns the first `room` lines, or all if there are fewer. `room` must be at most the
+    /// `limit` with which the lines were collected (see `tell_changed`).
     pub fn first(&self, room: usize) -> &[u8]
         ensures { (limit : ℕ) (all : List (List ℕ)) → room ≤ limit → HasLines limit all self.now
             → result.now ≡ concat (take room all) }

@@ -17,7 +17,7 @@ use diff_tables::string_list::StringList;
 use polars_arrays_flat::byte_rows::ByteRows;
 use std::alloc::{AllocError, Global};
 
-/// The most rows of a text that a report accepts.
+/// The bound of row numbers: a report accepts a row only if its number is less than this.
 const MOST_ROWS: u64 = 1 << 62;
 
 /// The report of two sorted texts, so far: the lines of the first differences, and the counts.
@@ -87,7 +87,9 @@ impl<'a> SortedReport<'a> {
         })
     }
 
-    /// Checks that a row has the columns of the report, and that its number is below `MOST_ROWS`.
+    /// Checks that `row` has a cell for each column of the report, and that its number is below
+    /// `MOST_ROWS`. Also checks that the report has a count for each column, and that its key
+    /// columns exist. Fails with `AllocError` if any of this is not so.
     fn test_row(&self, row: &Row<'_>) -> Result<(), AllocError>
         ensures { OnOk result (IsFit self.now row.now) }
     {
@@ -108,7 +110,8 @@ impl<'a> SortedReport<'a> {
         Ok(())
     }
 
-    /// Checks that each count by column can be increased without overflow.
+    /// Checks that each count by column can be increased without overflow. Fails with `AllocError`
+    /// if one can't.
     fn check_counts(&self) -> Result<(), AllocError>
         ensures { OnOk result (All (λ n. n < 2 ^ 64 - 1) self.now.counts.items) }
     {

@@ -78,7 +78,10 @@ fn lent<'a>(frame: &'a Frame, options: &Options<'_>) -> frame::Frame<'a>
     }
 }
 
-/// Merges the rows of two sorted inputs into a report, and returns it.
+/// Merges the rows of two sorted inputs, and returns the report that received them. `heads` has the
+/// matched columns of the inputs, and `frame` the names and options for the lines. Fails with
+/// `Falls` if a row has a lesser key than the row before it, with `KeyTwice` if keys must be unique
+/// but are not, and with `Run` for all other errors.
 fn merged_report<'f, L: Read + Drop, R: Read + Drop>(
     alloc: Global,
     left: Source<L>,
@@ -153,7 +156,8 @@ fn outcome_of(options: &Options<'_>, layout: &Layout, report: &SortedReport<'_>)
     outcome_by(report.is_same(), are_shared(options, layout))
 }
 
-/// Returns the text of the report and the outcome. `told` has received all rows of both inputs.
+/// Returns the text of the report and the outcome. `told` must have received all rows of both
+/// inputs. The only error is `Run` with `RunError::Memory`.
 fn report_of(
     alloc: Global,
     heads: &Heads,
@@ -209,12 +213,14 @@ fn report_on<L: Read + Drop, R: Read + Drop>(
     Ok(report)
 }
 
-/// Compares two inputs whose rows are sorted by key, byte by byte. Writes the same report as `run`
-/// of `diff_run`, but has only a few rows of each input and the lines of the report in memory.
+/// Compares two inputs whose rows are sorted by key, byte by byte, and returns the outcome. Writes
+/// the same report as `run` of `diff_run`, but has only a few rows of each input and the lines of
+/// the report in memory.
 ///
 /// Fails with `Refused` if the options have no key, or have numbers, tolerances or a part. Fails
-/// with `Falls` if a row has a lesser key than the row before it. In both cases nothing was
-/// written.
+/// with `Falls` if a row has a lesser key than the row before it, with `KeyTwice` if keys must be
+/// unique but are not, and with `Run` for all other errors. If the error is not a failed write,
+/// nothing was written.
 pub fn run_sorted<L: Read + Drop, R: Read + Drop, W: Write>(
     alloc: Global,
     left: Input<'_, L>,

@@ -19,7 +19,7 @@ use polars_arrays_flat::byte_rows::ByteRows;
 use std::alloc::AllocError;
 
 impl<'a> SortedReport<'a> {
-    /// Returns the number of row pairs and rows of each kind.
+    /// Returns the numbers of changed and of equal row pairs, and of removed and of added rows.
     fn totals(&self) -> Totals
         ensures { (left_rows right_rows : List Seen) (s : Sides) (c : Comparison)
             → IsToldAs self.now left_rows right_rows s c → AreTotalsOf c result }
@@ -32,8 +32,8 @@ impl<'a> SortedReport<'a> {
         }
     }
 
-    /// Appends the lines of the first `limit` differences: the changed rows in the order of the
-    /// left rows, then the removed rows, then the added rows.
+    /// Appends the lines of the first `self.limit` differences: the changed rows in the order of
+    /// the left rows, then the removed rows, then the added rows.
     fn push_lines(&self, out: &mut Vec<u8>) -> Result<(), AllocError>
         ensures { OnOk result ((left_rows right_rows : List Seen) (s : Sides) (c : Comparison)
             → IsToldAs self.now left_rows right_rows s c
@@ -51,7 +51,8 @@ impl<'a> SortedReport<'a> {
         Ok(())
     }
 
-    /// Appends the report of the rows: the lines of the first differences, and the end.
+    /// Appends the report of the rows: the lines of the first differences, and the end. Fails with
+    /// `AllocError` if an allocation fails, or if there is not one count for each column name.
     pub fn push(&self, out: &mut Vec<u8>) -> Result<(), AllocError>
         ensures { OnOk result ((left_rows right_rows : List Seen) (s : Sides) (c : Comparison)
             → IsToldAs self.now left_rows right_rows s c

@@ -25,8 +25,8 @@ fn bytes_from<O: Offset>(array: &BinaryArray<O>, at: usize, n: usize) -> &[u8]
     &array.values()[from..to]
 }
 
-/// Returns whether the `n` strings from `at` on in `left` have the same lengths as the `n` strings
-/// from `from` on in `right`, pair by pair.
+/// Returns whether string `at + c` of `left` is as long as string `from + c` of `right`, for each
+/// `c` below `n`.
 fn are_as_long<L: ByteRows, R: ByteRows>(
     left: &L,
     at: usize,
@@ -106,8 +106,9 @@ fn lengths_agree<L: Offset, R: Offset>(
     Ok(flags)
 }
 
-/// Appends the indices of the pairs in `start..end` that are not stored alike (`are_alike`).
-/// `as_long` has for each of these pairs whether its rows have strings of the same lengths.
+/// Appends to `places` the indices of the pairs in `start..end` whose two rows are not stored alike
+/// (`are_alike`). Pairs and rows are defined as for `lengths_agree`, and `as_long` is the result of
+/// that function.
 fn push_unlike<L: Offset, R: Offset>(
     places: &mut Vec<usize>,
     left: &BinaryArray<L>,
@@ -146,8 +147,10 @@ fn push_unlike<L: Offset, R: Offset>(
     Ok(())
 }
 
-/// Returns the indices of the pairs whose rows, of `width` strings each, don't have the same
-/// lengths and bytes. The two rows of every other pair are equal.
+/// Returns the indices of the pairs whose two rows are not stored alike, in ascending order. Two
+/// rows are stored alike, and are then equal, if their strings have the same lengths and the same
+/// bytes. Pair `p` is row `left_rows[p]` of `left` and row `right_rows[p]` of `right`. A row is
+/// `width` adjacent strings.
 pub(crate) fn unlike_pairs<L: Offset, R: Offset>(
     alloc: Global,
     left: &BinaryArray<L>,

@@ -13,7 +13,7 @@ use polars_arrays_flat::byte_rows::ByteRows;
 use std::alloc::{AllocError, Global};
 use std::marker::Model;
 
-/// An array of cells with offsets of either width.
+/// An array of cells with 32-bit or 64-bit offsets.
 #[derive(Drop)]
 enum Stored {
     // An array with 32-bit offsets, and the buffer of its bytes, which the array shares.
@@ -22,7 +22,8 @@ enum Stored {
     Far(BinaryArray<i64>),
 }
 
-/// Byte strings. They have 32-bit offsets if all offsets are below 2^31.
+/// The cells of a table, which are byte strings. They have 32-bit offsets if all offsets are below
+/// 2^31, and else 64-bit offsets.
 pub(crate) struct Cells {
     stored: Stored,
 }
@@ -88,8 +89,10 @@ impl Cells {
         }
     }
 
-    /// Returns the indices of the pairs of rows, of `width` strings each, that don't have the same
-    /// lengths and bytes. The two rows of every other pair are equal.
+    /// Returns the indices of the pairs whose two rows are not stored alike, in ascending order.
+    /// Two rows are stored alike, and are then equal, if their strings have the same lengths and
+    /// the same bytes. Pair `p` is row `rows[p]` of these cells and row `other_rows[p]` of `other`.
+    /// A row is `width` adjacent strings.
     pub(crate) fn unlike_pairs(
         &self,
         alloc: Global,

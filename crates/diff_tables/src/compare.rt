@@ -32,8 +32,8 @@ pub struct Comparison {
     pub changed: Vec<usize>,
 }
 
-/// Returns the indices of the pairs whose rows differ, in ascending order. Pair `p` is row
-/// `left_rows[p]` of `left` and row `right_rows[p]` of `right`.
+/// Returns the indices of the pairs whose two rows differ, in ascending order. Pair `p` is row
+/// `left_rows[p]` of `left` and row `right_rows[p]` of `right`. The only error is `Memory`.
 fn changed_rows(
     alloc: Global,
     left: &Table,
@@ -75,7 +75,9 @@ fn places_at(alloc: Global, all: &[usize], places: &[usize]) -> Result<Vec<usize
     Ok(picked)
 }
 
-/// Returns the indices of the matched pairs whose rows differ, in ascending order.
+/// Returns the indices of the matched pairs whose two rows differ, in ascending order. Pair `k` is
+/// row `matching.left_rows[k]` of `left` and row `matching.right_rows[k]` of `right`. The only
+/// error is `Memory`.
 fn changed_places(
     alloc: Global,
     left: &Table,
@@ -100,8 +102,8 @@ fn changed_places(
     Ok(changed)
 }
 
-/// Matches the rows of a table with left rows by key. `left_keys` has the keys of the left rows.
-/// `columns` are the key columns of `right`.
+/// Matches left rows with the rows of `right` by key. `left_keys` has the encoded key of each left
+/// row. `columns` are the key columns of `right`. Fails like `match_rows`.
 fn matched_with(
     alloc: Global,
     left_keys: &BinaryArray<i64>,
@@ -123,7 +125,8 @@ fn matched_with(
     }
 }
 
-/// Matches the rows of two tables by their cells in the key columns.
+/// Matches the rows of two tables by their cells in `columns`, the key columns of both tables.
+/// Fails like `match_rows`.
 fn matched(
     alloc: Global,
     left: &Table,
@@ -145,8 +148,9 @@ fn matched(
     }
 }
 
-/// Compares two tables with the same number of columns. `columns` are the key columns: rows are
-/// matched by their cells in these, and the matched pairs that differ are listed.
+/// Compares two tables with the same number of columns. Rows are matched by their cells in
+/// `columns`, the key columns of both tables. The result has the matched pairs of rows, the rows
+/// without a partner, and a list of the matched pairs that differ.
 ///
 /// Fails with `TooManyRows` if a table has more than 2^32 rows, and with `Memory` if an allocation
 /// fails.
@@ -168,8 +172,9 @@ pub fn compare_tables(
     }
 }
 
-/// Returns the first row whose key an earlier row has, together with the earlier row. Returns
-/// `None` if all keys are different. The only error is `Memory`.
+/// Returns the first row with the same key as an earlier row, together with that earlier row.
+/// Returns `None` if all keys are different. The key of a row is its cells in `columns`. The only
+/// error is `Memory`.
 pub fn key_twice(
     alloc: Global,
     table: &Table,

@@ -5,7 +5,7 @@ ghost use Rattle.diff_tables.specs.Keys.{escaped, marked};
 
 use std::alloc::AllocError;
 
-/// Appends a byte. A zero byte is written as 0 1.
+/// Appends `byte` to `out`. A zero byte is written as the two bytes 0 and 1.
 fn push_byte(out: &mut Vec<u8>, byte: u8) -> Result<(), AllocError>
     ensures { OnOk result (out.new.items ≡ out.old.items ++ marked byte) }
 {
@@ -18,7 +18,8 @@ fn push_byte(out: &mut Vec<u8>, byte: u8) -> Result<(), AllocError>
     Ok(())
 }
 
-/// Appends a byte string, with each zero byte written as 0 1, and then the end mark 0 0.
+/// Appends `string` to `out`, and then two zero bytes as an end mark. Each zero byte of `string` is
+/// written as the two bytes 0 and 1.
 fn push_marked(out: &mut Vec<u8>, string: &[u8]) -> Result<(), AllocError>
     ensures { OnOk result (out.new.items ≡ out.old.items ++ escaped string.now) }
 {
@@ -30,8 +31,8 @@ fn push_marked(out: &mut Vec<u8>, string: &[u8]) -> Result<(), AllocError>
     Ok(())
 }
 
-/// Appends a byte string, with each zero byte written as 0 1, and then the end mark 0 0. A string
-/// without zero bytes is copied at once.
+/// Appends `string` to `out`, and then two zero bytes as an end mark. Each zero byte of `string` is
+/// written as the two bytes 0 and 1. A string without zero bytes is copied as a whole.
 pub(crate) fn push_escaped(out: &mut Vec<u8>, string: &[u8]) -> Result<(), AllocError>
     ensures { OnOk result (out.new.items ≡ out.old.items ++ escaped string.now) }
 {

@@ -12,8 +12,8 @@ use polars_arrays_bits::error::ComputeError;
 use polars_arrays_bytes::binary::BinaryArray;
 use std::alloc::{AllocError, Global};
 
-/// Sets `key` to the encoded key of row `i`: its cells in `columns`, one after another
-/// (`push_escaped`).
+/// Sets `key` to the encoded key of row `i` of `table`: the row's cells in `columns`, each encoded
+/// and appended by `push_escaped`.
 fn write_key(
     key: &mut Vec<u8>,
     table: &Table,

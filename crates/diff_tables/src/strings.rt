@@ -20,14 +20,14 @@ use std::alloc::{AllocError, Global};
 /// `abc`. An offset takes 4 bytes if it is below 2^31, and else 8 bytes.
 #[derive(Drop)]
 pub struct Strings {
-    // The offset 0, and then the end of each of the first strings, while the ends fit into 32 bits.
+    // The offset 0, and then the ends of the first strings, as long as the ends fit into an `i32`.
     ends: Vec<i32>,
     // The ends of the remaining strings.
     far_ends: Vec<i64>,
     bytes: Vec<u8>,
 }
 
-/// Returns cells with these offsets (`ends`) and bytes. The only error is `Memory`.
+/// Returns cells with the offsets `ends` and the bytes `bytes`. The only error is `Memory`.
 fn near_cells(alloc: Global, ends: Vec<i32>, bytes: Vec<u8>) -> Result<Cells, ComputeError>
     requires { (places : List ℕ) × (all : List (List ℕ)) × (ends.items ≡ map (λ n. pos n) places)
         × AreGroups places bytes.items all }
@@ -60,7 +60,7 @@ impl Strings {
         })
     }
 
-    /// Appends a string. `ends` must have spare capacity for one offset.
+    /// Appends `string`. `self.ends` must have spare capacity for one offset.
     #[inline(always)]
     fn push_within(&mut self, string: &[u8]) -> Result<(), AllocError>
         requires { vec_len self.old.ends < vec_capacity self.old.ends }
@@ -111,8 +111,8 @@ impl Strings {
         Ok(())
     }
 
-    /// Converts the list to an array. Clones of the array share its offsets and bytes. The bytes
-    /// are not copied. The only error is `Memory`.
+    /// Converts the list to an array with 64-bit offsets. The bytes are not copied. Clones of the
+    /// array share its offsets and bytes. The only error is `Memory`.
     pub fn into_array(self, alloc: Global) -> Result<BinaryArray<i64>, ComputeError>
         requires { (all : List (List ℕ)) × AreStrings self all }
         ensures { MatchResult result

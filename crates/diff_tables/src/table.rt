@@ -14,7 +14,7 @@ use polars_arrays_bits::error::ComputeError;
 use std::alloc::{AllocError, Global};
 use std::marker::Model;
 
-/// A table of cells, which are byte strings. Each row has `width` cells.
+/// A table of `count` rows with `width` cells each. The cells are byte strings.
 #[derive(Drop)]
 pub struct Table {
     width: usize,
@@ -76,14 +76,15 @@ impl Table {
         requires column { c < self.now.width }
         ensures { result.now ≡ get_or (get_or self.now.rows i []) c [] }
     {
-        // The index below is less than this count, so it doesn't overflow a `usize`.
+        // The index below is less than this count, which is a `usize`, so the index doesn't
+        // overflow.
         let _cells = self.cells.count();
         self.cells.value(self.width * i + c)
     }
 
-    /// Returns the indices of the pairs of rows that are not stored alike. Rows are stored alike if
-    /// their cells have the same lengths and the same bytes. The two rows of every other pair are
-    /// equal. Pair `p` is row `rows[p]` of this table and row `other_rows[p]` of the other table.
+    /// Returns the indices of the pairs whose two rows are not stored alike, in ascending order.
+    /// Two rows are stored alike, and are then equal, if their cells have the same lengths and the
+    /// same bytes. Pair `p` is row `rows[p]` of this table and row `other_rows[p]` of `other`.
     pub(crate) fn unlike_pairs(
         &self,
         alloc: Global,
@@ -102,7 +103,7 @@ impl Table {
             .unlike_pairs(alloc, rows, &other.cells, other_rows, self.width)
     }
 
-    /// Returns the rows as borrowed cells.
+    /// Returns the rows of this table with borrowed cells.
     pub(crate) fn lent(&self) -> LentRows<'_>
         ensures { Lends self.now result }
     {

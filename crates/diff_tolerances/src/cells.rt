@@ -34,7 +34,8 @@ fn narrow_number(cell: &[u8]) -> Option<&str>
     }
 }
 
-/// Returns whether two numbers differ by no more than the margin allows.
+/// Returns whether two numbers differ by no more than the margin allows. The exponents of both must
+/// have at most 30 digits.
 fn is_within(margin: &Margin, left: &str, right: &str) -> bool
     requires left { ¬ HasWideExponent left.now }
     requires right { ¬ HasWideExponent right.now }
@@ -47,7 +48,7 @@ fn is_within(margin: &Margin, left: &str, right: &str) -> bool
 }
 
 /// Returns whether two cells are numbers that differ by no more than the margin allows. Returns
-/// `false` if a cell is not a number, or a number with an exponent of more than 30 digits.
+/// `false` if a cell is not a number, or is a number with an exponent of more than 30 digits.
 fn are_close(margin: &Margin, left: &[u8], right: &[u8]) -> bool
     ensures { result ≡ are_close margin.now left.now right.now }
 {
@@ -61,7 +62,8 @@ fn are_close(margin: &Margin, left: &[u8], right: &[u8]) -> bool
 }
 
 impl<'a> Tolerance<'a> {
-    /// Returns whether this tolerance is for this column and allows the two cells to differ.
+    /// Returns whether this tolerance is for the column named `column`, and the cells `left` and
+    /// `right` are numbers that differ by no more than the margin allows.
     fn allows(&self, column: &[u8], left: &[u8], right: &[u8]) -> bool
         ensures { result ≡ allows self.now column.now left.now right.now }
     {
@@ -69,7 +71,8 @@ impl<'a> Tolerance<'a> {
     }
 }
 
-/// Returns whether at least one of the tolerances allows the two cells of this column to differ.
+/// Returns whether at least one of the tolerances allows the cells `left` and `right` to differ.
+/// `column` is the name of the column of both cells.
 fn is_tolerated(tolerances: &[Tolerance<'_>], column: &[u8], left: &[u8], right: &[u8]) -> bool
     ensures { result ≡ is_tolerated tolerances.now column.now left.now right.now }
 {
@@ -79,8 +82,8 @@ fn is_tolerated(tolerances: &[Tolerance<'_>], column: &[u8], left: &[u8], right:
     tolerance.allows(column, left, right) || is_tolerated(rest, column, left, right)
 }
 
-/// Returns the cell to compare in place of the right cell: `left` if a tolerance allows the two to
-/// differ, so that they count as equal, and else `right`.
+/// Returns the cell to compare in place of `right`: `left` if a tolerance allows the two to differ,
+/// so that they count as equal, and else `right`. `column` is the name of the column of both cells.
 pub(crate) fn cell_by<'a>(
     tolerances: &[Tolerance<'_>],
     column: &[u8],

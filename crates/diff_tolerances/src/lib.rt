@@ -1,5 +1,5 @@
-//! Applies tolerances: numbers of the right table that are within a tolerance of their partner's
-//! number are replaced by that number. They then count as equal.
+//! Applies tolerances: if a number of the right table differs from its partner's number by no more
+//! than a tolerance allows, it is replaced by the partner's number. The two then count as equal.
 #![tactic(auto)]
 
 pub mod cells;

@@ -14,8 +14,8 @@ use diff_tables::table::Table;
 use polars_arrays_bytes::binary::BinaryArray;
 use std::alloc::{AllocError, Global};
 
-/// Matches the rows of a table with left rows by key. `left_keys` has the keys of the left rows.
-/// `columns` are the key columns of `right`.
+/// Matches left rows and the rows of `right` by key. `left_keys` has the encoded key of each left
+/// row. `columns` are the key columns of `right`. Fails as `partners_of` does.
 fn matched_with(
     alloc: Global,
     left_keys: &BinaryArray<i64>,
@@ -37,7 +37,7 @@ fn matched_with(
     }
 }
 
-/// Matches the rows of two tables by their cells in the key columns.
+/// Matches the rows of `left` and `right` by their cells in `columns`. Fails as `partners_of` does.
 fn matched(
     alloc: Global,
     left: &Table,
@@ -59,8 +59,8 @@ fn matched(
     }
 }
 
-/// Returns for each of `count` right rows its partner, or `None` if it has none. `left_rows[k]` is
-/// the partner of `right_rows[k]`.
+/// Returns for each right row the left row that is its partner, or `None` if it has no partner.
+/// `count` is the number of right rows. `left_rows[k]` is the partner of `right_rows[k]`.
 fn rows_beside(
     alloc: Global,
     left_rows: &[u32],
@@ -80,8 +80,8 @@ fn rows_beside(
     Ok(found)
 }
 
-/// Returns for each right row its partner, the number of a left row, or `None` if it has none. Rows
-/// are matched by their cells in `columns`.
+/// Returns for each right row the number of the left row that is its partner, or `None` if it has
+/// no partner. Rows are numbered from 0, and are matched by their cells in `columns`.
 ///
 /// Fails with `TooManyRows` if a table has more than 2^32 rows, and with `Memory` if an allocation
 /// fails.

@@ -12,9 +12,10 @@ use polars_arrays_bytes::binary::BinaryArray;
 use polars_arrays_flat::byte_rows::ByteRows;
 use std::alloc::AllocError;
 
-/// Returns the cell to compare in place of a right cell. This is the cell of the partner if a
-/// tolerance allows the two to differ, and else the right cell. `partner` is the left partner of
-/// `row`, if it has one.
+/// Returns the cell to compare in place of the cell of `right` at `row` and `column`. This is the
+/// cell of `left` at `partner` and `column` if a tolerance allows the two to differ, and else the
+/// right cell. `partner` is the left row that is the partner of `row`, or `None` if it has no
+/// partner. `names` has the names of the columns.
 fn cell_at<'a>(
     tolerances: &[Tolerance<'_>],
     names: &BinaryArray<i64>,
@@ -42,8 +43,8 @@ fn cell_at<'a>(
     }
 }
 
-/// Appends the cells to compare in place of a right row (`cell_at`). `partner` is the left partner
-/// of `row`, if it has one.
+/// Appends to `cells` the cells to compare in place of row `row` of `right`, as `cell_at` returns
+/// them. `partner` is the left row that is the partner of `row`, or `None` if it has no partner.
 pub(crate) fn push_row(
     cells: &mut Strings,
     tolerances: &[Tolerance<'_>],

@@ -17,8 +17,9 @@ use diff_tables::table::Table;
 use polars_arrays_bytes::binary::BinaryArray;
 use std::alloc::{AllocError, Global};
 
-/// Returns the cells to compare in place of those of the right table, row by row. `partners` has
-/// the left partner of each right row.
+/// Returns, row by row, the cells to compare in place of the cells of `right`. `names` has the
+/// names of the columns. `partners[j]` is the left row that is the partner of right row `j`, or
+/// `None` if it has no partner.
 fn tolerant_cells(
     alloc: Global,
     tolerances: &[Tolerance<'_>],
@@ -52,10 +53,10 @@ fn tolerant_cells(
     Ok(cells)
 }
 
-/// Returns the table to compare in place of the right table. A cell is replaced by the cell of its
-/// left partner if one of the tolerances allows the two to differ: with a tolerance of 0.1, 1.05 is
-/// replaced by its partner 1.0. All other cells are unchanged. `columns` are the key columns, by
-/// which rows are matched.
+/// Returns the table to compare in place of `right`. A cell of `right` is replaced by the cell in
+/// the same column of the row's left partner if a tolerance for this column allows the two to
+/// differ: with a tolerance of 0.1, 1.05 is replaced by 1.0. All other cells are unchanged. `names`
+/// has the names of the columns. `columns` are the key columns, by which rows are matched.
 ///
 /// Fails with `TooManyRows` if a table has more than 2^32 rows, and with `Memory` if an allocation
 /// fails.

@@ -9,8 +9,8 @@ use crate::colors::{Color, push_color};
 use crate::quoted::push_quoted;
 use std::alloc::AllocError;
 
-/// Returns whether `cell` equals the text that stands for no value (option `--null`). Returns
-/// `false` if `null` is `None`.
+/// Returns whether `cell` equals `null`, the text that stands for no value (option `--null`).
+/// Returns `false` if `null` is `None`.
 pub fn is_null(null: &Option<Vec<u8>>, cell: &[u8]) -> bool
     ensures { result ≡ is_null (option_map (λ v. v.items) null.now) cell.now }
 {
@@ -20,7 +20,8 @@ pub fn is_null(null: &Option<Vec<u8>>, cell: &[u8]) -> bool
     }
 }
 
-/// Appends `null` if the cell stands for no value (`is_null`), and else the cell between quotes.
+/// Appends the word `null` if `cell` stands for no value (`is_null`), and else `cell` between
+/// quotes.
 #[tactic(auto, unfolding(crate::specs::Cells::cell_text))]
 pub fn push_cell(out: &mut Vec<u8>, null: &Option<Vec<u8>>, cell: &[u8]) -> Result<(), AllocError>
     ensures { OnOk result
@@ -34,7 +35,8 @@ pub fn push_cell(out: &mut Vec<u8>, null: &Option<Vec<u8>>, cell: &[u8]) -> Resu
     Ok(())
 }
 
-/// Appends a cell (`push_cell`). If `colored`, it is in `color`, and the plain colour follows.
+/// Appends `cell` as `push_cell` does. If `colored`, switches the terminal to `color` before the
+/// cell, and back to the default colour after it.
 #[tactic(auto, unfolding(crate::specs::Colors::painted))]
 pub fn push_painted_cell(
     out: &mut Vec<u8>,

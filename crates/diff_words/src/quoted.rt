@@ -37,7 +37,7 @@ fn is_hidden(before: u8, byte: u8, after: u8) -> bool
     byte < 32 || byte == 127 || is_high_control(before, byte) || is_high_control(byte, after)
 }
 
-/// Returns the hexadecimal digit of `n`, as a lower case letter from 10 on.
+/// Returns `n` as a hexadecimal digit. The digits from 10 on are lower case letters.
 fn hex_digit(n: u8) -> u8
     requires { n < 16 }
     ensures { result ≡ digit_glyph false n }
@@ -74,7 +74,7 @@ fn push_byte(out: &mut Vec<u8>, before: u8, byte: u8, after: u8) -> Result<(), A
     Ok(())
 }
 
-/// Returns byte `i`, or 0 if `bytes` is shorter.
+/// Returns byte `i` of `bytes`, or 0 if `bytes` has no byte `i`.
 fn byte_at(bytes: &[u8], i: usize) -> u8
     ensures { result ≡ get_or bytes.now i 0 }
 {

@@ -22,7 +22,7 @@ fn is_word_byte(byte: u8) -> bool
         && byte != 194
 }
 
-/// Returns whether a word may contain each of these bytes.
+/// Returns whether a word may contain each byte of `bytes` (`is_word_byte`).
 fn are_word_bytes(bytes: &[u8]) -> bool
     ensures { result ≡ list_all is_word_byte bytes.now }
 {

@@ -13,8 +13,8 @@ use json_decimals::numbers::push_normal_number;
 const MOST_DIGITS: usize = 30;
 
 /// Checks that the exponent of a number has at most 30 digits, and fails with `WideExponent` if
-/// not. `room` is memory that may be overwritten. A text of at most 30 bytes needs no further
-/// check.
+/// not, or with `Memory` if an allocation fails. `room` is memory that may be overwritten. A text
+/// of at most 30 bytes needs no further check.
 pub(crate) fn check_number(room: &mut Vec<u8>, text: &str) -> Result<(), NumberError>
     ensures { TellsNarrow result (¬ HasWideExponent text.now) }
 {
@@ -27,7 +27,8 @@ pub(crate) fn check_number(room: &mut Vec<u8>, text: &str) -> Result<(), NumberE
 }
 
 /// Checks that the exponents of all numbers in a value have at most 30 digits, and fails with
-/// `WideExponent` if not. `room` is memory that may be overwritten.
+/// `WideExponent` if not, or with `Memory` if an allocation fails. `room` is memory that may be
+/// overwritten.
 #[cycle(narrow)]
 pub fn check_narrow<'a>(room: &mut Vec<u8>, value: &Value<'a>) -> Result<(), NumberError>
     ensures { TellsNarrow result (HasNarrowNumbers (value_view value.now)) }
@@ -40,7 +41,7 @@ pub fn check_narrow<'a>(room: &mut Vec<u8>, value: &Value<'a>) -> Result<(), Num
     }
 }
 
-/// Checks the numbers in the items of an array.
+/// Checks the exponents of all numbers in the items of an array. Fails like `check_narrow`.
 #[cycle(narrow)]
 fn check_items<'a>(room: &mut Vec<u8>, items: &Vec<Value<'a>>) -> Result<(), NumberError>
     ensures { TellsNarrow result (ItemsHaveNarrowNumbers (items_view items.now.items)) }
@@ -51,7 +52,8 @@ fn check_items<'a>(room: &mut Vec<u8>, items: &Vec<Value<'a>>) -> Result<(), Num
     Ok(())
 }
 
-/// Checks the numbers in the values of an object's members.
+/// Checks the exponents of all numbers in the values of an object's members. Fails like
+/// `check_narrow`.
 #[cycle(narrow)]
 fn check_members<'a>(
     room: &mut Vec<u8>,

@@ -13,8 +13,8 @@ use std::str::from_utf8;
 /// The greatest depth to which arrays and objects may nest.
 const DEEPEST: usize = 128;
 
-/// The state of a JSON reader: for each open array or object whether it is an object, from the
-/// outermost on, and whether the last token was the name of a member.
+/// The state of a JSON reader. `are_objects` says for each open array or object, from the outermost
+/// on, whether it is an object. `is_named` is `true` if the last token was the name of a member.
 #[derive(Drop)]
 struct Open {
     are_objects: Vec<bool>,
@@ -22,7 +22,8 @@ struct Open {
 }
 
 impl Open {
-    /// Returns whether a value may come next. Outside of all objects and arrays only an object may.
+    /// Returns whether a value may come next. `is_object` says whether the value is an object.
+    /// Outside of all objects and arrays only an object may come.
     fn takes_value(&self, is_object: bool) -> bool {
         match self.are_objects.last() {
             Some(true) => self.is_named,
@@ -31,7 +32,8 @@ impl Open {
         }
     }
 
-    /// Opens an array or object. Returns `false` if it is not allowed here, or nests too deep.
+    /// Opens an object if `is_object` is `true`, and an array otherwise. Returns `false` if it is
+    /// not allowed here, or if `DEEPEST` arrays and objects are open already.
     fn begin(&mut self, is_object: bool) -> Result<bool, AllocError> {
         if !self.takes_value(is_object) || self.are_objects.len() >= DEEPEST {
             return Ok(false);
@@ -41,7 +43,8 @@ impl Open {
         Ok(true)
     }
 
-    /// Closes an array or object. Returns `false` if this is not allowed here.
+    /// Closes an object if `is_object` is `true`, and an array otherwise. Returns `false` if this
+    /// is not allowed here.
     fn end(&mut self, is_object: bool) -> bool {
         !self.is_named && self.are_objects.pop() == Some(is_object)
     }
@@ -84,10 +87,10 @@ fn past_blanks(text: &[u8], from: usize) -> usize {
     text.len()
 }
 
-/// Returns the byte offset at which `text` stops being a single JSON object: that of the first
-/// token that is not allowed, that of the first byte after the closed object that isn't blank, or
-/// the length of the text. The reader takes a name together with its colon as one token, and a
-/// comma together with the token before it.
+/// Returns the byte offset at which `text` stops being a single JSON object. This is the offset of
+/// the first token that is not allowed or, after a complete object, of the first byte that is not
+/// whitespace. If there is neither, this is the length of the text. The reader takes a name
+/// together with its colon as one token, and a comma together with the token before it.
 fn invalid_json_offset(
     alloc: Global,
     text: &str,
@@ -113,8 +116,8 @@ fn invalid_json_offset(
     Ok(text.len())
 }
 
-/// Returns the offset of the first name that an earlier member of its object has, or 0 if there is
-/// none.
+/// Returns the offset of the first name that an earlier member of the same object has too, or 0 if
+/// there is no such name.
 fn second_name_place(
     alloc: Global,
     text: &str,
@@ -162,7 +165,8 @@ fn wide_place(text: &str, scratch: &mut Scratch, room: &mut Vec<u8>) -> Result<u
     Ok(0)
 }
 
-/// Returns the column of the byte at this offset: the number of characters before it, plus 1.
+/// Returns the column of the byte at offset `place` of a line: the number of characters before it,
+/// plus 1.
 fn column_at(line: &[u8], place: usize) -> u64 {
     let before = line
         .iter()

@@ -34,8 +34,8 @@ fn read_tree<'a>(
     }
 }
 
-/// Returns the differences between two documents that are to be reported. `rules` decide which
-/// these are. The only error is a failed allocation.
+/// Returns the differences between the documents `left` and `right` that are reported under
+/// `rules`. The only error is a failed allocation.
 fn changes_in(
     alloc: Global,
     left: &Value<'_>,
@@ -54,8 +54,8 @@ fn changes_in(
     }
 }
 
-/// Parses two documents, and returns the differences between them that are to be reported. `rules`
-/// decide which these are. The only error is a failed allocation.
+/// Parses two lines that are known to be documents, and returns the differences between them that
+/// are reported under `rules`. The only error is a failed allocation.
 fn changes_between(
     alloc: Global,
     left: &[u8],

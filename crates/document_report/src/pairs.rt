@@ -21,7 +21,7 @@ use document_words::sides::DocumentSides;
 use json_changes::changes::Change;
 use std::alloc::{AllocError, Global};
 
-/// Returns the separator between two differences of a line.
+/// Returns the separator between two differences in a line of this format.
 fn separator_in(format: Format) -> &'static [u8]
     ensures { result.now ≡ separator_in format }
 {
@@ -31,7 +31,7 @@ fn separator_in(format: Format) -> &'static [u8]
     }
 }
 
-/// Appends a difference: its path, and the left and the right value.
+/// Appends `change` as text (`push_change`) or as a JSON object (`push_change_object`).
 fn push_change_in(
     out: &mut Vec<u8>,
     format: Format,
@@ -87,7 +87,8 @@ fn push_differences(
     Ok(())
 }
 
-/// Appends the text line of two documents that differ: `~`, the key and the differences.
+/// Appends the text line for the documents of left row `i` and right row `j`, which differ: `~`,
+/// the key and the differences.
 #[tactic(auto, unfolding(crate::specs::Pairs::pair_line, crate::specs::Pairs::pair_text, diff_words::specs::Colors::painted))]
 fn push_pair_line(
     alloc: Global,
@@ -113,8 +114,8 @@ fn push_pair_line(
     Ok(())
 }
 
-/// Appends the JSON line of two documents that differ: the key, the line numbers and the
-/// differences.
+/// Appends the JSON line for the documents of left row `i` and right row `j`, which differ: the
+/// key, the line numbers and the differences.
 #[tactic(auto, unfolding(crate::specs::Pairs::pair_json, crate::specs::Pairs::pair_object))]
 fn push_pair_object(
     alloc: Global,
@@ -166,8 +167,8 @@ fn push_pair_at(
     }
 }
 
-/// Appends the lines of the first `limit` pairs in `changed`, the indices of the matched pairs that
-/// differ.
+/// Appends a line for each of the first `limit` pairs in `changed`. `changed` has the indices of
+/// the matched pairs that differ.
 pub(crate) fn push_pairs(
     alloc: Global,
     out: &mut Vec<u8>,

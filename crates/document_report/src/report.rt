@@ -18,7 +18,8 @@ use document_words::skipped::push_skipped_lines;
 use std::alloc::{AllocError, Global};
 
 /// Appends the lines of the first `limit` differences: the changed documents in the order of the
-/// left file, then the removed documents, then the added documents.
+/// left file, then the removed documents, then the added documents. `changed` has the indices of
+/// the matched pairs that differ.
 fn push_lines(
     alloc: Global,
     out: &mut Vec<u8>,
@@ -45,9 +46,9 @@ fn push_lines(
     Ok(())
 }
 
-/// Appends the end of a report. In text these are the number of differences without a line, the
-/// summary and the numbers of skipped lines. In JSON it is the line with the counts. `changed` is
-/// the number of matched pairs that differ.
+/// Appends the end of a report. A text report ends with the number of differences beyond `limit`
+/// (`push_rest`), the summary and the numbers of skipped lines. A JSON report ends with the line of
+/// the counts. `changed` is the number of matched pairs that differ.
 fn push_end(
     out: &mut Vec<u8>,
     format: Format,

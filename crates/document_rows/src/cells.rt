@@ -27,7 +27,8 @@ use json::{Scratch, Value};
 use json_paths::path::Path;
 use std::alloc::{AllocError, Global};
 
-/// Memory for parsing a document. It is reused for each document.
+/// Memory for reading documents, reused for each one: `scratch` for parsing, `room` for numbers and
+/// normal texts.
 #[derive(Drop)]
 pub(crate) struct Rooms {
     scratch: Box<Scratch>,
@@ -43,7 +44,8 @@ pub(crate) struct Rows {
     pub(crate) skipped: Vec<u64>,
 }
 
-/// Appends the normal text of the document's value at a key, or `null` if it has no value there.
+/// Appends to `cells` the normal text of the value that the document `value` has at the path `key`,
+/// or `null` if it has none there. `room` is memory that may be overwritten.
 fn push_part(
     alloc: Global,
     cells: &mut Strings,
@@ -63,7 +65,8 @@ fn push_part(
     Ok(())
 }
 
-/// Appends the normal text of the document's value at each key.
+/// Appends a cell to `cells` for each of `keys`: the normal text of the value that the document
+/// `value` has there, or `null` if it has none. `room` is memory that may be overwritten.
 fn push_parts(
     alloc: Global,
     cells: &mut Strings,
@@ -93,8 +96,8 @@ impl Rooms {
         Ok(Rooms { scratch, room })
     }
 
-    /// Returns the column of the fault in a line (see `document_faults`), or `None` if the fault
-    /// has no column.
+    /// Returns the column of `fault` in `line`, or `None` if a fault of this kind has no column
+    /// (see `document_faults::place::column_of`).
     pub(crate) fn column_of(
         &mut self,
         alloc: Global,
@@ -105,7 +108,7 @@ impl Rooms {
     }
 }
 
-/// Appends the cells of a row of `table`.
+/// Appends the cells of row `row` of `table` to `cells`.
 fn push_cells(cells: &mut Strings, table: &Table, row: usize) -> Result<(), AllocError>
     requires row { row < length table.now.rows }
     requires width { length (get_or table.now.rows row []) ≡ table.now.width }
@@ -136,7 +139,8 @@ impl Rows {
         })
     }
 
-    /// Appends a copy of a row of `table`, for line `number` of the input.
+    /// Appends a copy of row `row` of `table`. `number` is the number of the input line that the
+    /// copy stands for.
     pub(crate) fn push_copy(
         &mut self,
         table: &Table,
@@ -156,9 +160,12 @@ impl Rows {
         Ok(())
     }
 
-    /// Appends the row of a line: the normal text of the value at each key, and the line itself.
-    /// `number` is the number of the line. Appends nothing if the document is not in the part to
-    /// read. Fails with `Fault` if the line is not a document, and appends nothing then.
+    /// Parses `line` as a document, and appends its row: the normal text of the value at each of
+    /// `keys`, or `null` if there is none, and then the line itself. `number` is the number of the
+    /// line. Appends nothing if the document is not in `reading.part`.
+    ///
+    /// Fails with `Fault` if the line is not a document, and then appends nothing. Fails with
+    /// `Memory` if an allocation fails.
     pub(crate) fn push(
         &mut self,
         alloc: Global,

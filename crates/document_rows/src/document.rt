@@ -13,7 +13,7 @@ use json::{Error, Scratch, Value};
 use std::alloc::{AllocError, Global};
 use std::str::from_utf8;
 
-/// Returns the line from which a row was read. It is the last cell of the row.
+/// Returns the line from which row `row` of `table` was read. It is the last cell of the row.
 pub fn line_of(table: &Table, row: usize) -> &[u8]
     requires documents { HoldsDocuments table.now }
     requires row { row < length table.now.rows }
@@ -22,8 +22,8 @@ pub fn line_of(table: &Table, row: usize) -> &[u8]
     table.cell(row, table.width() - 1)
 }
 
-/// Parses the document of a row. `scratch` is memory that can be reused for each document. The only
-/// error is a failed allocation.
+/// Parses the line from which row `row` of `table` was read, and returns the document. `scratch` is
+/// memory that can be reused for each document. The only error is a failed allocation.
 pub fn document_of<'a>(
     alloc: Global,
     table: &'a Table,

@@ -12,8 +12,9 @@ use std::alloc::{AllocError, Global};
 /// The lookups don't depend on each other, so the processor can wait for many of them at once.
 const BLOCK: usize = 256;
 
-/// A guess for each of the next lines: a row that may have been read from an equal line. A number
-/// that is not a row of the table means that there is no guess.
+/// Guesses for the next lines of the right input, in order. For each of these lines, `rows` has a
+/// row of the left table that may have been read from an equal line, or a number that is not a row
+/// if there is no guess.
 #[derive(Drop)]
 pub(crate) struct Guesses {
     rows: Vec<usize>,
@@ -28,7 +29,8 @@ impl Guesses {
         Guesses { rows, next: 0 }
     }
 
-    /// Creates a list of guesses from the row for each of the next lines.
+    /// Creates a list of guesses: `rows[0]` for the next line, `rows[1]` for the line after it, and
+    /// so on.
     pub(crate) fn of(rows: Vec<usize>) -> Guesses {
         Guesses { rows, next: 0 }
     }
@@ -49,8 +51,8 @@ impl Guesses {
     }
 }
 
-/// Splits bytes at the first line feed: the line before it, and the rest after it. Returns `None`
-/// if there is no line feed.
+/// Splits `bytes` at the first line feed, and returns the line before it and the rest after it.
+/// Returns `None` if there is no line feed.
 fn split_line<'a>(bytes: &'a [u8]) -> Option<(&'a [u8], &'a [u8])> {
     let end = memchr(b'\n', bytes)?;
     Some((&bytes[..end], &bytes[end + 1..]))
@@ -70,8 +72,8 @@ pub(crate) fn lines_in<'a>(alloc: Global, bytes: &'a [u8]) -> Result<Vec<&'a [u8
     Ok(lines)
 }
 
-/// Returns the line of each of `rows`, and an empty line for a number that is not a row of the
-/// table.
+/// Returns, for each of `rows`, the line from which this row of `table` was read, or an empty line
+/// if the number is not a row of `table`.
 fn lines_of<'a>(
     alloc: Global,
     table: &'a Table,
@@ -108,9 +110,9 @@ fn are_similar(line: &[u8], other: &[u8]) -> bool {
     similar
 }
 
-/// Removes unlikely guesses. Returns `rows`, but at each index `k` where the line of row `rows[k]`
-/// is not similar to `lines[k]`, the result has a number that is not a row. This also loads the
-/// lines of the remaining rows into the cache, before they are compared.
+/// Returns `rows` without the unlikely guesses: `rows[k]` is replaced by a number that is not a row
+/// if the line of row `rows[k]` of `table` is not similar to `lines[k]`. This also loads the lines
+/// of the remaining rows into the cache, before `push_row` compares them.
 pub(crate) fn likely_rows(
     alloc: Global,
     table: &Table,

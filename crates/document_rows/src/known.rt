@@ -21,8 +21,8 @@ const SPREAD: u64 = 0x9e37_79b9_7f4a_7c15;
 /// The number of slots per row. With 8, few lines share a slot.
 const SLOTS: usize = 8;
 
-/// The lines from which the rows of a table were read. Two equal lines have equal rows, so the row
-/// of a known line can be copied.
+/// The known lines: those from which the rows of `table` were read. Equal lines have equal rows, so
+/// the row of a known line can be copied. If `table` is `None`, no line is known.
 #[derive(Drop)]
 pub(crate) struct Known<'a> {
     table: Option<&'a Table>,
@@ -55,7 +55,7 @@ fn mixed(number: u64, other: u64) -> u64 {
     (number ^ other).wrapping_mul(SPREAD).rotate_left(29)
 }
 
-/// Returns a hash of a line of less than 32 bytes and of `start`.
+/// Returns a hash of `start` and `line`. `line` is the end of a line, of less than 32 bytes.
 #[inline(always)]
 fn spread_short(line: &[u8], start: u64) -> u64 {
     let mut number = start;
@@ -134,7 +134,7 @@ impl<'a> Known<'a> {
         Ok(slots)
     }
 
-    /// Returns the row in each of these slots.
+    /// Returns the row in each of `slots`. A number that is not a slot is left out.
     fn rows_in(&self, alloc: Global, slots: &[usize]) -> Result<Vec<usize>, AllocError> {
         let mut rows = Vec::with_capacity(alloc, slots.len())?;
         for slot in slots {
@@ -145,8 +145,8 @@ impl<'a> Known<'a> {
         Ok(rows)
     }
 
-    /// Returns a guess for each of the first complete lines in `bytes`, at most a block of them: a
-    /// row that may have been read from an equal line. Each step is done for all lines before the
+    /// Returns guesses for the complete lines at the beginning of `bytes`, but at most for `BLOCK`
+    /// lines. Returns no guesses if no line is known. Each step is done for all lines before the
     /// next step, so that the processor can fetch memory for several lines at once.
     pub(crate) fn guesses_for(&self, alloc: Global, bytes: &[u8]) -> Result<Guesses, AllocError>
         requires { (reading : Reading) × (keys : List Path) × KnowsLines reading keys self.now }
@@ -161,8 +161,8 @@ impl<'a> Known<'a> {
         Ok(Guesses::of(rows))
     }
 
-    /// Returns a row that may have been read from an equal line. It can be any number if the line
-    /// is not known.
+    /// Returns the row in the slot of `line`, or 0 if no line is known. The row may have been read
+    /// from a different line.
     fn row_for(&self, line: &[u8]) -> usize {
         if self.slots.is_empty() {
             return 0;
@@ -170,9 +170,10 @@ impl<'a> Known<'a> {
         self.slots[slot_of(line, self.slots.len())] as usize
     }
 
-    /// Appends a copy of the row of a line, if the line is known. Returns whether it is known.
-    /// `number` is the number of the line. `guess` is a row to try; without a guess, the line is
-    /// looked up.
+    /// Appends to `rows` a copy of the row that was read from a line equal to `line`, and returns
+    /// `true`. Tries only one row: `guess`, or without a guess the row in the slot of `line`. If
+    /// this row was not read from an equal line, appends nothing and returns `false`. `number` is
+    /// the number of `line` in the input.
     pub(crate) fn push_row(
         &self,
         rows: &mut Rows,

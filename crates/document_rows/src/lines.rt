@@ -18,8 +18,10 @@ enum Part {
     Nothing,
 }
 
-/// Appends the bytes that the reader has buffered, up to the next line feed. The line feed is
-/// consumed but not appended.
+/// Appends to `line` the bytes that `reader` has buffered, up to the next line feed, and consumes
+/// them. Some are read first if none are buffered. The line feed is consumed but not appended.
+/// Returns the state of the line after that. If the read was interrupted, appends nothing and
+/// returns `Open`.
 fn append_part<B: BufRead>(reader: &mut B, line: &mut Vec<u8>) -> Result<Part>
     ensures { IfOk result
         (λ part. (rest : List ℕ) → B.remaining reader.old ≡ Some rest
@@ -53,7 +55,8 @@ fn append_part<B: BufRead>(reader: &mut B, line: &mut Vec<u8>) -> Result<Part>
     }
 }
 
-/// Reads the next line into `line`, without its line feed. Returns `false` if the input has ended.
+/// Reads the next line into `line`, without its line feed. The previous contents of `line` are
+/// removed. Returns `false` if there are no more lines.
 pub(crate) fn read_line<B: BufRead>(reader: &mut B, line: &mut Vec<u8>) -> Result<bool>
     ensures { IfOk result
         (λ found. (rest : List ℕ) → B.remaining reader.old ≡ Some rest

@@ -34,7 +34,8 @@ impl Scratches {
     }
 }
 
-/// Returns whether the documents of two rows have no difference to report.
+/// Returns whether `rules` report no difference between the documents of row `left_row` of `left`
+/// and row `right_row` of `right`.
 fn are_same_documents(
     alloc: Global,
     left: &Table,
@@ -60,7 +61,8 @@ fn are_same_documents(
     }
 }
 
-/// Returns whether the documents of matched pair `place` have a difference to report.
+/// Returns whether `rules` report a difference between the documents of matched pair `place`: row
+/// `matching.left_rows[place]` of `left` and row `matching.right_rows[place]` of `right`.
 fn is_other_pair(
     alloc: Global,
     left: &Table,
@@ -84,8 +86,8 @@ fn is_other_pair(
     Ok(!same)
 }
 
-/// Returns the indices of the matched pairs whose documents have a difference to report, in
-/// ascending order. `rules` decide which differences are reported.
+/// Returns the indices of the pairs in `comparison.matching` for which `rules` report a difference
+/// between the two documents, in ascending order.
 pub fn differing_pairs(
     alloc: Global,
     left: &Table,

@@ -46,8 +46,8 @@ fn write_text(alloc: Global, room: &mut Room, value: &Value<'_>) -> Result<(), A
     Ok(())
 }
 
-/// Sets `room.text` to the normal text of the document's value at a key, or to `null` if it has no
-/// value there.
+/// Sets `room.text` to the normal text of the value that the document `value` has at the path
+/// `key`, or to `null` if it has none there.
 pub(crate) fn write_part(
     alloc: Global,
     room: &mut Room,
@@ -72,8 +72,8 @@ pub(crate) fn write_part(
     }
 }
 
-/// Returns the normal text of the document's value at each key, and `null` for each key at which it
-/// has no value.
+/// Returns a text for each of `keys`: the normal text of the value that the document `value` has
+/// there, or `null` if it has none. `room` is memory that may be overwritten.
 fn key_texts(
     alloc: Global,
     room: &mut Room,
@@ -102,7 +102,7 @@ pub fn key_columns(alloc: Global, count: usize) -> Result<Vec<usize>, AllocError
     (0..count).collect(alloc)
 }
 
-/// The normal texts of a document's keys, as a list of strings.
+/// The normal texts of a document's values at the keys, as a list of strings.
 #[derive(Clone, Copy)]
 struct Texts<'a> {
     texts: &'a [Vec<u8>],
@@ -121,8 +121,8 @@ impl<'a> StringList for Texts<'a> {
     }
 }
 
-/// Returns whether a document is in `part`. Its values at the keys decide. Returns `true` if `part`
-/// is `None`.
+/// Returns whether the document `value` is in `part`. This depends on its values at `keys`. Returns
+/// `true` if `part` is `None`. `room` is memory that may be overwritten.
 pub(crate) fn is_in(
     alloc: Global,
     room: &mut Room,

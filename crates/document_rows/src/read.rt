@@ -47,7 +47,8 @@ fn fault_of(cause: io::Error) -> ReadError
     }
 }
 
-/// Reads the next line into `line`, without its line feed. Returns `false` if the input has ended.
+/// Reads the next line into `line`, without its line feed. Returns `false` if there are no more
+/// lines. If the reader fails, the error is `Read` or `Memory` (`fault_of`).
 fn next_line<B: BufRead>(reader: &mut B, line: &mut Vec<u8>) -> Result<bool, ReadError>
     ensures told { IfOk result
         (λ found. (rest : List ℕ) → B.remaining reader.old ≡ Some rest
@@ -60,8 +61,9 @@ fn next_line<B: BufRead>(reader: &mut B, line: &mut Vec<u8>) -> Result<bool, Rea
     }
 }
 
-/// Returns the error about line `number`, which is not a document because of `fault`. The result is
-/// `Memory` if the column of the fault can't be found for lack of memory.
+/// Returns the error `Line` for `line`, which is not a document because of `fault`. `number` is the
+/// number of the line. Returns `Memory` instead if finding the column of the fault fails for lack
+/// of memory.
 fn fault_in(
     alloc: Global,
     line: &[u8],
@@ -81,9 +83,12 @@ fn fault_in(
     }
 }
 
-/// Appends the row of a line to `rows`. A known line is not parsed again: its row is copied. A line
-/// that is not a document is skipped if `reading` allows it, and a document of another part is left
+/// Appends the row of `line` to `rows`. The row is copied if `known` finds it with the help of
+/// `guess` (`Known::push_row`); otherwise the line is parsed. A document of another part is left
 /// out. `number` is the number of the line.
+///
+/// A line that is not a document is recorded as skipped if `reading` allows it; otherwise fails
+/// with `Line`. Fails with `Memory` if an allocation fails.
 fn keep_line(
     alloc: Global,
     rows: &mut Rows,
@@ -119,8 +124,8 @@ fn keep_line(
     }
 }
 
-/// Reads all lines, and appends their rows to `rows`, which must be empty. `line`, `guesses` and
-/// `rooms` are memory that is reused.
+/// Reads all lines from `reader`, and appends their rows to `rows`, which must be empty. `line`,
+/// `guesses` and `rooms` are memory that is reused.
 fn read_lines<R: Read + Drop>(
     alloc: Global,
     reader: &mut BufReader<R>,
@@ -164,7 +169,7 @@ fn read_lines<R: Read + Drop>(
     Err(ReadError::Memory)
 }
 
-/// Reads all lines, and returns their rows.
+/// Reads all lines from `reader`, and returns their rows and the numbers of the skipped lines.
 fn read_rows<R: Read + Drop>(
     alloc: Global,
     mut reader: BufReader<R>,
@@ -198,8 +203,8 @@ fn read_rows<R: Read + Drop>(
     }
 }
 
-/// Returns the documents of the rows, as a table with a column for each key and one for the line.
-/// The only error is `Memory`.
+/// Converts `rows` to `Documents`. The table has a column for each of `keys`, and then one for the
+/// line. The only error is `Memory`.
 fn table_of(alloc: Global, rows: Rows, keys: &[Path]) -> Result<Documents, ReadError>
     requires { (reading : Reading) × (lines : List (List ℕ))
         × HoldsRows reading (paths_view keys.now) lines rows }
@@ -237,7 +242,8 @@ fn buffered<R: Read + Drop>(alloc: Global, reader: R) -> Result<BufReader<R>, Re
     }
 }
 
-/// Reads the documents of an input. A known line is not parsed again: its row is copied.
+/// Reads the documents of an input as `read_documents` does. The rows of most known lines are
+/// copied, without parsing these lines again.
 fn read_unknown<R: Read + Drop>(
     alloc: Global,
     reader: R,
@@ -289,8 +295,8 @@ pub fn read_documents<R: Read + Drop>(
     Ok(documents)
 }
 
-/// Reads documents as `read_documents` does. A line that equals the line of a row of `table` is not
-/// parsed again. `table` must have been read with the same keys and options.
+/// Reads documents as `read_documents` does. Most lines that equal the line of a row of `table` are
+/// not parsed again: the row is copied. `table` must have been read with the same keys and options.
 pub fn read_documents_beside<R: Read + Drop>(
     alloc: Global,
     reader: R,

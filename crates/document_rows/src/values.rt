@@ -1,4 +1,4 @@
-//! Parses a line as a document, and finds its fault if it is none.
+//! Parses a line as a document, or finds the fault because of which it is not a document.
 
 ghost use Rattle.std.specs.Prelude.{◌≡◌, List, None, Some, IfErr, IfOk, IfSome, MatchResult};
 ghost use Rattle.std.specs.Str.{IsUtf8};
@@ -46,8 +46,9 @@ impl<T: Drop> From<AllocFailed<T>> for Trouble {
     }
 }
 
-/// Parses a line as a JSON value. Fails with the fault `Invalid` if the line is not JSON, and with
-/// `RepeatedName` if an object has two members with the same name.
+/// Parses a line as a JSON value. Fails with the fault `Invalid` if the line is not UTF-8 or not
+/// JSON or nests too deeply, with the fault `RepeatedName` if an object has two members with the
+/// same name, and with `Memory` if an allocation fails.
 fn parsed<'a>(alloc: Global, line: &'a [u8], scratch: &'a mut Scratch) -> Result<Value<'a>, Trouble>
     ensures { MatchResult result
         (λ v. IsUtf8 line.now × (document line.now ≡ Some (value_view v))
@@ -67,8 +68,10 @@ fn parsed<'a>(alloc: Global, line: &'a [u8], scratch: &'a mut Scratch) -> Result
     }
 }
 
-/// Parses a line as a JSON object, and checks that the exponents of all numbers have at most 30
-/// digits. `room` is memory that may be overwritten.
+/// Parses a line as a JSON object. Fails with the fault `NoObject` if the line is another JSON
+/// value, with the fault `WideExponent` if the exponent of a number has more than 30 digits, not
+/// counting leading zeros, and with the errors of `parsed`. `room` is memory that may be
+/// overwritten.
 pub(crate) fn object_of<'a>(
     alloc: Global,
     line: &'a [u8],
@@ -108,8 +111,8 @@ fn missing_key(value: &Value<'_>, keys: &[Path]) -> Option<usize>
     None
 }
 
-/// Checks that `value` has a value at each key, and fails with `NoPart` if not. Does not check if
-/// `reading` allows null keys.
+/// Checks that the document `value` has a value at each of `keys`. Fails with `NoPart` for the
+/// first key at which it has none. Checks nothing if `reading` allows null keys.
 fn check_keys(value: &Value<'_>, keys: &[Path], reading: Reading) -> Result<(), LineFault>
     ensures { MatchResult result
         (λ _. HasKeys reading (paths_view keys.now) (value_view value.now))
@@ -124,8 +127,9 @@ fn check_keys(value: &Value<'_>, keys: &[Path], reading: Reading) -> Result<(), 
     }
 }
 
-/// Parses a line as a document, and fails with its fault if it is none. `room` is memory that may
-/// be overwritten.
+/// Parses a line as a document: a JSON object that has a value at each of `keys`, unless `reading`
+/// allows null keys. Fails with `Fault` if the line is not a document, and with `Memory` if an
+/// allocation fails. `room` is memory that may be overwritten.
 pub(crate) fn document_in<'a>(
     alloc: Global,
     line: &'a [u8],

@@ -8,7 +8,8 @@ use std::alloc::AllocError;
 use std::io;
 use thiserror::Error;
 
-/// An error of comparing two inputs of documents. Except for `Write`, nothing was written.
+/// An error of comparing two inputs of documents. With any error except `Write`, nothing was
+/// written to the output.
 #[derive(Debug, Drop, Error)]
 pub enum DocumentError {
     /// An allocation failed.

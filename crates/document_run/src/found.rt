@@ -25,8 +25,11 @@ pub(crate) struct Found {
     pub(crate) changed: Vec<usize>,
 }
 
-/// Matches the documents of two inputs by their keys, and checks that keys are unique if the
-/// options require it.
+/// Matches the documents of two inputs by their keys, and lists the matched pairs that differ.
+///
+/// Fails with `KeyTwice` if `options.unique` is true and two documents of an input have the same
+/// key, with `TooManyRows` if an input has more than 2^32 documents, and with `Memory` if an
+/// allocation fails.
 fn compared(
     alloc: Global,
     sides: &DocumentSides<'_>,
@@ -49,7 +52,7 @@ fn compared(
 }
 
 /// Finds the matched documents that have a difference to report, and the documents without a
-/// partner.
+/// partner. The errors are those of `compared`.
 pub(crate) fn found_on(
     alloc: Global,
     sides: &DocumentSides<'_>,

@@ -22,7 +22,8 @@ pub(crate) struct ReadSide {
     pub(crate) skipped: Vec<u64>,
 }
 
-/// Reads the documents of an input. `side` is the side of the input, for errors.
+/// Reads the documents of an input. `side` is the side of the input. If `read_documents` fails, the
+/// error is `Read` with this side. If the name of the input can't be copied, the error is `Memory`.
 pub(crate) fn read_side<R: Read + Drop>(
     alloc: Global,
     input: Input<'_, R>,
@@ -58,8 +59,8 @@ pub(crate) fn read_side<R: Read + Drop>(
     }
 }
 
-/// Reads the documents of the right input. A line that equals a line of the left input is not
-/// parsed again.
+/// Reads the documents of the right input. `left` has the documents of the left input. Most lines
+/// that equal a line of the left input are not parsed again. The errors are those of `read_side`.
 pub(crate) fn read_right<R: Read + Drop>(
     alloc: Global,
     input: Input<'_, R>,

@@ -20,7 +20,8 @@ pub(crate) struct Report {
     pub(crate) outcome: Outcome,
 }
 
-/// Returns the text of the report.
+/// Returns the report of the comparison result `found`, in the format and with the limit of
+/// `options`.
 fn text_of(
     alloc: Global,
     sides: &DocumentSides<'_>,
@@ -41,7 +42,8 @@ fn text_of(
     Ok(text)
 }
 
-/// Compares the documents of two inputs, and returns the report and the outcome.
+/// Compares the documents of two inputs, and returns the report and the outcome. The errors are
+/// those of `found_on`.
 pub(crate) fn report_of(
     alloc: Global,
     sides: &DocumentSides<'_>,

@@ -35,8 +35,9 @@ fn report_on<L: Read + Drop, R: Read + Drop>(
     Ok(report)
 }
 
-/// Compares two inputs of documents, and writes the report to `out`. If the error is not `Write`,
-/// nothing was written: the inputs are read completely and the report is made in memory first.
+/// Compares two inputs of documents, writes the report to `out`, and returns the outcome. If the
+/// error is not `Write`, nothing was written: the inputs are read completely and the report is made
+/// in memory first.
 pub fn run_documents<L: Read + Drop, R: Read + Drop, W: Write>(
     alloc: Global,
     left: Input<'_, L>,

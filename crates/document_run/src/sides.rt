@@ -27,8 +27,12 @@ fn copied(alloc: Global, names: &[&[u8]]) -> Result<Vec<Vec<u8>>, AllocError>
     Ok(copies)
 }
 
-/// Reads the documents of two inputs. Fails with `AllSkipped` if an input has lines, but all of
-/// them were skipped.
+/// Reads the documents of two inputs. The names of the keys and the options for the report are
+/// copied from `options`.
+///
+/// Fails with `Read` if reading the documents of an input fails, with `Memory` if a name can't be
+/// copied, and with `AllSkipped` if an input has lines but all of them were skipped. `AllSkipped`
+/// is not returned if only a part of the documents is read.
 pub(crate) fn sides_of<'a, L: Read + Drop, R: Read + Drop>(
     alloc: Global,
     left: Input<'_, L>,

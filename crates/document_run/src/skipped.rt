@@ -8,7 +8,7 @@ use crate::inputs::ReadSide;
 use crate::options::DocumentOptions;
 use diff_columns::error::Side;
 
-/// Returns whether an input has lines, but all of them were skipped.
+/// Returns whether lines of an input were skipped, and no document was read.
 fn none_kept(read: &ReadSide) -> bool
     ensures { result ≡ none_kept read.now.table.lines.items read.now.skipped.items }
 {

@@ -16,8 +16,9 @@ use diff_tables::compare::key_twice;
 use document_words::sides::DocumentSides;
 use std::alloc::Global;
 
-/// Checks that no two documents of a table have the same key, and fails with `KeyTwice` if two
-/// have.
+/// Checks that no two documents of `table` have the same key. `columns` are the key columns. Fails
+/// with `KeyTwice` if two documents have the same key, and with `Memory` if an allocation fails.
+/// `side` is the side of the table, for the error.
 fn test_side(
     alloc: Global,
     table: &Table,
@@ -40,7 +41,8 @@ fn test_side(
     }
 }
 
-/// Checks on both sides that no two documents have the same key, if the option `unique` is set.
+/// Checks on each side that no two documents have the same key, if `options.unique` is true.
+/// `columns` are the key columns. The errors are those of `test_side`.
 pub(crate) fn test_keys(
     alloc: Global,
     sides: &DocumentSides<'_>,

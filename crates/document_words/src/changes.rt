@@ -10,7 +10,8 @@ use diff_words::colors::{Color, push_color};
 use json_plain::plain::push_plain_json;
 use std::alloc::AllocError;
 
-/// Appends a value as JSON without control characters. Appends `missing` for `None`.
+/// Appends `part`, the JSON text of a value, without control characters. Appends `missing` if
+/// `part` is `None`.
 #[tactic(auto, unfolding(crate::specs::Changes::part_text))]
 fn push_part(out: &mut Vec<u8>, part: &Option<Vec<u8>>) -> Result<(), AllocError>
     ensures { OnOk result
@@ -23,7 +24,8 @@ fn push_part(out: &mut Vec<u8>, part: &Option<Vec<u8>>) -> Result<(), AllocError
     Ok(())
 }
 
-/// Appends a value (`push_part`). If `colored`, it is in `color`, and the plain colour follows.
+/// Appends a value as `push_part` does. If `colored` is true, switches to `color` before the value,
+/// and back to the plain colour after it.
 #[tactic(auto, unfolding(diff_words::specs::Colors::painted))]
 fn push_painted_part(
     out: &mut Vec<u8>,
@@ -42,7 +44,7 @@ fn push_painted_part(
 }
 
 /// Appends a difference as text: `PATH LEFT -> RIGHT`. A value that is `None` is written as
-/// `missing`.
+/// `missing`. If `colored` is true, the left value is red and the right value is green.
 #[tactic(auto, unfolding(crate::specs::Changes::change_text))]
 pub fn push_change(
     out: &mut Vec<u8>,
@@ -64,7 +66,8 @@ pub fn push_change(
     Ok(())
 }
 
-/// Appends a comma and the member `"NAME":VALUE`. Appends nothing if the value is `None`.
+/// Appends a comma and the member `"NAME":VALUE`, where the value is the JSON text `part`. Appends
+/// nothing if `part` is `None`.
 #[tactic(auto, unfolding(crate::specs::Changes::part_member))]
 fn push_part_member(
     out: &mut Vec<u8>,

@@ -12,7 +12,7 @@ use diff_report::summary::difference_count;
 use diff_words::decimals::push_decimal;
 use std::alloc::AllocError;
 
-/// Appends a number and the text `what` after it.
+/// Appends the number `count`, and the text `what` after it.
 fn push_count(out: &mut Vec<u8>, count: usize, what: &[u8]) -> Result<(), AllocError>
     ensures { OnOk result (out.new.items ≡ out.old.items ++ decimal count ++ what.now) }
 {
@@ -21,7 +21,7 @@ fn push_count(out: &mut Vec<u8>, count: usize, what: &[u8]) -> Result<(), AllocE
     Ok(())
 }
 
-/// Appends the numbers of changed, removed, added and equal documents, and a line feed.
+/// Appends a line of text with the four counts: `1 changed, 2 removed, 0 added, 5 the same.`
 #[tactic(auto, unfolding(crate::specs::Counts::totals_text))]
 fn push_totals(
     out: &mut Vec<u8>,
@@ -40,8 +40,8 @@ fn push_totals(
     Ok(())
 }
 
-/// Appends the summary at the end of a text report. `changed` is the number of matched pairs that
-/// differ.
+/// Appends the summary of a text report: a line with the numbers of changed, removed, added and
+/// equal documents. `changed` is the number of matched pairs that differ.
 pub fn push_summary(
     out: &mut Vec<u8>,
     matching: &Matching,
@@ -61,8 +61,9 @@ pub fn push_summary(
     Ok(())
 }
 
-/// Appends the JSON line with the counts. `changed` is the number of matched pairs that differ.
-/// `limit` is the most differences with a line of their own; the rest are counted as `not_shown`.
+/// Appends the last line of a JSON report: the counts of documents, and also of skipped lines if
+/// lines may be skipped. `changed` is the number of matched pairs that differ. `limit` is the most
+/// differences with a line of their own; the rest are counted as `not_shown`.
 #[tactic(auto, unfolding(crate::specs::Counts::counts_json, crate::specs::Counts::counts_object))]
 pub fn push_counts(
     out: &mut Vec<u8>,

@@ -16,7 +16,7 @@ use diff_words::lists::push_gap;
 use diff_words::words::push_word;
 use std::alloc::AllocError;
 
-/// Appends `NAME=VALUE` for key `k` of row `i`.
+/// Appends `NAME=VALUE` for key `k` of row `i` of `side`.
 fn push_key(
     out: &mut Vec<u8>,
     sides: &DocumentSides<'_>,
@@ -36,7 +36,7 @@ fn push_key(
     Ok(())
 }
 
-/// Appends `NAME=VALUE` for each key of row `i`, with commas between them.
+/// Appends `NAME=VALUE` for each key of row `i` of `side`, with commas between them.
 fn push_keys(
     out: &mut Vec<u8>,
     sides: &DocumentSides<'_>,
@@ -58,8 +58,8 @@ fn push_keys(
     Ok(())
 }
 
-/// Appends the key of a document: `NAME=VALUE` for each key. If there are no keys, appends `row N`,
-/// where the first row is 1.
+/// Appends the key of the document in row `i` of `side`: `NAME=VALUE` for each key, with commas
+/// between them. If there are no keys, appends `row N`, where the first row is 1.
 #[tactic(auto, unfolding(crate::specs::Keys::document_name))]
 pub fn push_document_name(
     out: &mut Vec<u8>,
@@ -82,7 +82,7 @@ pub fn push_document_name(
     Ok(())
 }
 
-/// Appends the member `"NAME":VALUE` for key `k` of row `i`.
+/// Appends the member `"NAME":VALUE` for key `k` of row `i` of `side`.
 fn push_key_member(
     out: &mut Vec<u8>,
     sides: &DocumentSides<'_>,
@@ -102,7 +102,8 @@ fn push_key_member(
     Ok(())
 }
 
-/// Appends the member `"NAME":VALUE` for each key of row `i`, with commas between the members.
+/// Appends the member `"NAME":VALUE` for each key of row `i` of `side`, with commas between the
+/// members.
 pub fn push_key_members(
     out: &mut Vec<u8>,
     sides: &DocumentSides<'_>,

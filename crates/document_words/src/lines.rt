@@ -17,8 +17,8 @@ use diff_words::formats::Format;
 use diff_words::words::push_word;
 use std::alloc::AllocError;
 
-/// Appends the text line of a document without a partner, without colours and line feed: the mark,
-/// the key, the name of the file and the line number.
+/// Appends the text line of the document in row `i` of `side`, which has no partner: the mark, the
+/// key, the name of the file and the line number. Appends no colours and no line feed.
 #[tactic(auto, unfolding(crate::specs::Lines::alone_text))]
 fn push_alone(
     out: &mut Vec<u8>,
@@ -44,8 +44,8 @@ fn push_alone(
     Ok(())
 }
 
-/// Appends the text line of a document without a partner. `mark` is `-` for a removed and `+` for
-/// an added document.
+/// Appends the text line of the document in row `i` of `side`, which has no partner. `mark` is `-`
+/// for a removed and `+` for an added document.
 #[tactic(auto, unfolding(crate::specs::Lines::alone_line, diff_words::specs::Colors::painted))]
 fn push_alone_line(
     out: &mut Vec<u8>,
@@ -65,8 +65,8 @@ fn push_alone_line(
     Ok(())
 }
 
-/// Appends the JSON line of a document without a partner: the key and the line number. `kind` is
-/// `removed` or `added`.
+/// Appends the JSON line of the document in row `i` of `side`, which has no partner: the kind, the
+/// key and the line number. `kind` is `removed` or `added`.
 #[tactic(auto, unfolding(crate::specs::Lines::alone_json, crate::specs::Lines::alone_object))]
 fn push_alone_object(
     out: &mut Vec<u8>,
@@ -90,7 +90,8 @@ fn push_alone_object(
     Ok(())
 }
 
-/// Appends the line of a document without a partner, as text or JSON.
+/// Appends the line of the document in row `i` of `side`, which has no partner, as text or JSON.
+/// `alone` says whether the document is removed or added.
 fn push_document_alone(
     out: &mut Vec<u8>,
     format: Format,
@@ -112,8 +113,8 @@ fn push_document_alone(
     }
 }
 
-/// Appends the lines of the first `limit` of `rows`, which are documents of `side` without a
-/// partner.
+/// Appends a line for each of the first `limit` of `rows`, the rows of documents of `side` without
+/// a partner. `alone` says whether these documents are removed or added.
 pub fn push_documents_alone(
     out: &mut Vec<u8>,
     format: Format,

@@ -11,12 +11,12 @@ use json_decimals::tens::tens_of;
 use json_plain::plain::push_plain_json;
 use std::alloc::AllocError;
 
-/// The most zeros at the end of a number, or digits after its point, that are written instead of an
-/// exponent.
+/// The most zeros at the end of a number, or digits after its decimal point, that are written to
+/// avoid an exponent.
 const MOST_TENS: u128 = 20;
 
-/// The power of ten of a number that is written without an exponent: its digits are multiplied by
-/// 10^`up` and divided by 10^`down`.
+/// The power of ten 10^`up` / 10^`down` of a number that is written without an exponent. The number
+/// is the integer that its digits form, times this power.
 #[derive(Clone, Copy, Drop)]
 struct ShortTens {
     up: usize,
@@ -68,8 +68,8 @@ fn push_zeros(out: &mut Vec<u8>, n: usize) -> Result<(), AllocError>
     Ok(())
 }
 
-/// Appends `digits` with a decimal point before the last `down` of them. Zeros are added if there
-/// are too few digits.
+/// Appends `digits` with a decimal point before the last `down` of them. If there are not more than
+/// `down` digits, appends `0.`, the missing zeros, and then `digits`.
 #[tactic(auto, unfolding(crate::specs::Numbers::with_point))]
 fn push_with_point(out: &mut Vec<u8>, digits: &[u8], down: usize) -> Result<(), AllocError>
     ensures { OnOk result (out.new.items ≡ out.old.items ++ with_point digits.now down) }
@@ -87,7 +87,7 @@ fn push_with_point(out: &mut Vec<u8>, digits: &[u8], down: usize) -> Result<(), 
     Ok(())
 }
 
-/// Appends `digits` times the power of ten, without an exponent.
+/// Appends the product of the number `digits` and the power of ten `tens`, without an exponent.
 #[tactic(auto, unfolding(crate::specs::Numbers::plain_digits))]
 fn push_plain_digits(out: &mut Vec<u8>, digits: &[u8], tens: ShortTens) -> Result<(), AllocError>
     ensures { OnOk result
@@ -102,9 +102,9 @@ fn push_plain_digits(out: &mut Vec<u8>, digits: &[u8], tens: ShortTens) -> Resul
     Ok(())
 }
 
-/// Appends the value of a key. `text` is its normal text. A number is written without an exponent,
-/// unless that of its normal text is above 20 or below -20: `12e2` becomes `1200`, and `15e-1`
-/// becomes `1.5`.
+/// Appends the value of a key. `text` is the normal text of the value. A number is written without
+/// an exponent, unless the exponent in `text` is above 20 or below -20: `12e2` becomes `1200`, and
+/// `15e-1` becomes `1.5`. Any other value is written as JSON without control characters.
 #[tactic(auto, unfolding(crate::specs::Numbers::value_text))]
 pub fn push_value(out: &mut Vec<u8>, text: &[u8]) -> Result<(), AllocError>
     ensures { OnOk result (out.new.items ≡ out.old.items ++ value_text text.now) }

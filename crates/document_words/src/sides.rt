@@ -15,7 +15,8 @@ pub struct DocumentSides<'a> {
     pub right_skipped: Vec<u64>,
     /// `true` if lines that are not documents are skipped. `false` if they are errors.
     pub skip_bad: bool,
-    /// The names of the keys. If there are none, a report names a document by its number.
+    /// The names of the keys. If there are none, a report names a document by the number of its
+    /// row.
     pub keys: Vec<Vec<u8>>,
     /// `true` if the report has colours for a terminal.
     pub colored: bool,

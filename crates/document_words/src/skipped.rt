@@ -1,4 +1,4 @@
-//! Writes the numbers of lines that were skipped because they are not documents.
+//! Writes how many lines were skipped because they are not documents.
 
 ghost use Rattle.std.specs.Prelude.{◌≡◌, ◌++◌, length, OnOk};
 ghost use Rattle.document_words.specs.Skipped.{first_word, lines_word, skipped_lines};
@@ -9,7 +9,8 @@ use diff_words::decimals::push_decimal;
 use diff_words::words::push_word;
 use std::alloc::AllocError;
 
-/// Returns the text after the number of skipped lines, in the singular or the plural.
+/// Returns the text that follows the number `count` of skipped lines, in the singular or the
+/// plural.
 fn lines_word(count: usize) -> &'static [u8]
     ensures { result.now ≡ lines_word count }
 {
@@ -31,8 +32,8 @@ fn first_word(count: usize) -> &'static [u8]
     }
 }
 
-/// Appends a line with the number of skipped lines of a file, and with the number of the first of
-/// them. Appends nothing if no lines were skipped.
+/// Appends a line that says how many lines of the file `name` were skipped, and which was the
+/// first. `numbers` has the line numbers of the skipped lines. Appends nothing if it is empty.
 #[tactic(auto, unfolding(crate::specs::Skipped::skipped_text))]
 fn push_skipped(out: &mut Vec<u8>, name: &[u8], numbers: &[u64]) -> Result<(), AllocError>
     ensures { OnOk result (out.new.items ≡ out.old.items ++ skipped_text name.now numbers.now) }
@@ -50,8 +51,8 @@ fn push_skipped(out: &mut Vec<u8>, name: &[u8], numbers: &[u64]) -> Result<(), A
     Ok(())
 }
 
-/// Appends for each file a line with the number of its skipped lines, and with the number of the
-/// first of them. Appends nothing for a file without skipped lines.
+/// Appends for each of the two files a line that says how many of its lines were skipped, and which
+/// was the first. Appends nothing for a file without skipped lines.
 pub fn push_skipped_lines(out: &mut Vec<u8>, sides: &DocumentSides<'_>) -> Result<(), AllocError>
     ensures { OnOk result (out.new.items ≡ out.old.items ++ skipped_lines sides.now) }
 {
@@ -60,8 +61,8 @@ pub fn push_skipped_lines(out: &mut Vec<u8>, sides: &DocumentSides<'_>) -> Resul
     Ok(())
 }
 
-/// Appends the members `left_skipped` and `right_skipped`, each after a comma: the numbers of
-/// skipped lines. Appends nothing if lines may not be skipped.
+/// Appends the members `left_skipped` and `right_skipped`, each after a comma. They count the
+/// skipped lines of the two files. Appends nothing if `sides.skip_bad` is false.
 #[tactic(auto, unfolding(crate::specs::Skipped::skipped_members))]
 pub(crate) fn push_skipped_members(
     out: &mut Vec<u8>,

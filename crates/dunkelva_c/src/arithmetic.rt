@@ -21,9 +21,11 @@ use arrow_parts::part::{Part, PartKind};
 use polars_compute_arithmetic::arithmetic::pl_num::PlNumArithmetic;
 use std::alloc::Global;
 
-// Calculates an operation on the numbers `xs` and `ys` of two parts, row by row. Writes the results
-// into `out`, their validity into `present`, and the number of nulls into `nulls`. Fails with
-// `Parts`, `Room` or `Memory`; nothing is then written.
+// Applies the operation `arithmetic` to the numbers `xs` and `ys` of two parts, row by row. Writes
+// the results into `out`, their validity into `present`, and the number of nulls into `nulls`.
+//
+// Fails with `Parts` if a part is not a valid column, with `Room` if `check_room` does, and with
+// `Memory` if an allocation fails. Nothing is then written.
 fn calculate_numbers<T: PlNumArithmetic>(
     alloc: Global,
     arithmetic: Arithmetic,
@@ -52,9 +54,9 @@ fn calculate_numbers<T: PlNumArithmetic>(
     Ok(())
 }
 
-// Calculates an operation on two parts, row by row, and writes the results into the slice of their
-// type. Fails with `Types` if the parts differ in kind or in length, with `NotServed` if they are
-// not numbers of 8 to 64 bits, and as `calculate_numbers` does.
+// Applies the operation `arithmetic` to two parts, row by row, and writes the results into the
+// slice of their type. Fails with `Types` if the parts differ in kind or in length, with
+// `NotServed` if they are not numbers of 8 to 64 bits, and as `calculate_numbers` does.
 fn calculate_parts(
     alloc: Global,
     arithmetic: Arithmetic,

@@ -20,8 +20,9 @@ use polars_compute_reductions::bit_number::BitNumber;
 use polars_compute_slots::number::UniqueNumber;
 use std::alloc::Global;
 
-// Joins the numbers of a part's present rows bit by bit. Returns `None` if no row is present. Fails
-// with `Parts` or `Memory`.
+// Joins the numbers of a part's present rows bit by bit with `operator`. Returns `None` if no row
+// is present. Fails with `Parts` if the part is not a valid column, and with `Memory` if an
+// allocation fails.
 fn reduce_numbers<T: BitNumber + UniqueNumber>(
     alloc: Global,
     operator: BitOperator,

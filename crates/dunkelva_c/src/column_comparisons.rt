@@ -22,8 +22,9 @@ use polars_arrays_bits::bitmap::Bitmap;
 use polars_arrays_numbers::native_type::NativeType;
 use std::alloc::Global;
 
-// Compares the numbers `xs` and `ys` of two parts, row by row. Returns a bit for each row. Fails
-// with `Parts` or `Memory`.
+// Compares the numbers `xs` and `ys` of two parts, row by row. Returns a bit for each row, 1 if the
+// comparison `test` is true. Fails with `Parts` if a part is not a valid column, and with `Memory`
+// if an allocation fails.
 fn compare_numbers<T: NativeType>(
     alloc: Global,
     test: Test,

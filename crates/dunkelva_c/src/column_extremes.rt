@@ -28,8 +28,9 @@ fn whole_pair<T: UniqueNumber>(pair: Option<(T, T)>) -> Ends
     }
 }
 
-// Returns the least and the greatest number of a part's present rows. Fails with `Parts` or
-// `Memory`.
+// Returns the least and the greatest of `values`, the numbers of a part, without those of null
+// rows. Fails with `Parts` if the part is not a valid column, and with `Memory` if an allocation
+// fails.
 fn ends_of<T: UniqueNumber>(alloc: Global, part: &Part<'_>, values: &[T]) -> Result<Ends, Fault>
     ensures ends { IfOk result (AreEnds (rows_lent T.value part.now values.now)) }
     ensures refused { IfErr result (IsTrueOf (IsColumn part.now (length values.now))) }
@@ -47,8 +48,9 @@ fn part_ends(alloc: Global, part: &Part<'_>) -> Result<Ends, Fault>
     at_number_kind!(part, values => ends_of(alloc, part, values))
 }
 
-/// Writes the least and the greatest number of the present rows of a column. If no row is present,
-/// `exists` of both becomes 0. Returns 0, or the status of a `Fault`; both are then unchanged.
+/// Writes the least number of the present rows of a column into `least`, and the greatest one into
+/// `greatest`. If no row is present, `least.exists` and `greatest.exists` become 0. Returns 0, or
+/// the status of a `Fault`; `least` and `greatest` are then unchanged.
 #[unsafe(no_mangle)]
 pub extern "C" fn dunkelva_part_min_max(
     alloc: Global,

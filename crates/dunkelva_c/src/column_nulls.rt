@@ -82,8 +82,9 @@ fn part_nulls(alloc: Global, part: &Part<'_>) -> Result<Nulls, Fault>
     }
 }
 
-// Writes the bits and the number of the null rows of a part. Fails as `part_nulls` does, and with
-// `Room` if `out` has fewer bits than rows; nothing is then written.
+// Writes a bit for each row of a part into `out`, 1 if the row is null. Sets `count` to the number
+// of null rows. Fails as `part_nulls` does, and with `Room` if `out` has fewer bits than rows;
+// nothing is then written.
 fn write_nulls(
     alloc: Global,
     part: &Part<'_>,

@@ -19,7 +19,7 @@ use polars_compute_slots::number::UniqueNumber;
 use std::alloc::Global;
 
 // Returns the sum of a part's present rows, wrapped to type `T`, or `None` if no row is present.
-// Fails with `Parts` or `Memory`.
+// Fails with `Parts` if the part is not a valid column, and with `Memory` if an allocation fails.
 fn sum_of<T: UniqueNumber + WrappingAdd>(
     alloc: Global,
     part: &Part<'_>,

@@ -22,10 +22,13 @@ use polars_compute_arithmetic::arithmetic::pl_num::PlNumArithmetic;
 use polars_compute_slots::number::UniqueNumber;
 use std::alloc::Global;
 
-// Calculates an operation on each number of a part and the constant `number`, which is on side
-// `side`. Writes the results into `out`, their validity into `present`, and the number of nulls
-// into `nulls`. Fails with `Types` if type `T` can't represent the constant, and with `Parts`,
-// `Room` or `Memory`; nothing is then written.
+// Applies the operation `arithmetic` to each of `values`, the numbers of a part, and the constant
+// `number`, which is the operand on side `side`. Writes the results into `out`, their validity into
+// `present`, and the number of nulls into `nulls`.
+//
+// Fails with `Types` if type `T` can't represent the constant, with `Parts` if the part is not a
+// valid column, with `Room` if `check_room` does, and with `Memory` if an allocation fails. Nothing
+// is then written.
 fn calculate_numbers<T: PlNumArithmetic + UniqueNumber>(
     alloc: Global,
     arithmetic: Arithmetic,
@@ -55,9 +58,9 @@ fn calculate_numbers<T: PlNumArithmetic + UniqueNumber>(
     Ok(())
 }
 
-// Calculates an operation on each row of a part and a constant, and writes the results into the
-// slice of the part's type. Fails with `NotServed` if the part has no numbers of 8 to 64 bits, and
-// as `calculate_numbers` does.
+// Applies the operation `arithmetic` to each row of a part and the constant `number`, which is the
+// operand on side `side`. Writes the results into the slice of the part's type. Fails with
+// `NotServed` if the part has no numbers of 8 to 64 bits, and as `calculate_numbers` does.
 fn calculate_part(
     alloc: Global,
     arithmetic: Arithmetic,

@@ -24,8 +24,10 @@ use polars_arrays_bits::bitmap::Bitmap;
 use polars_compute_slots::number::UniqueNumber;
 use std::alloc::Global;
 
-// Compares each number of a part with the constant `number`. Returns a bit for each row. Fails with
-// `Types` if type `T` can't represent the constant, and with `Parts` or `Memory`.
+// Compares each of `values`, the numbers of a part, with the constant `number`. Returns a bit for
+// each row, 1 if the comparison `test` is true. Fails with `Types` if type `T` can't represent the
+// constant, with `Parts` if the part is not a valid column, and with `Memory` if an allocation
+// fails.
 fn compare_numbers<T: UniqueNumber>(
     alloc: Global,
     test: Test,

@@ -10,8 +10,9 @@ use arrow_parts::part::Part;
 use arrow_parts::written::write_bits;
 use polars_arrays_bits::bitmap::Bitmap;
 
-// Calls a function with the numbers of two parts of one kind, and with the caller's slice for
-// results of their type. Gives the error `NotServed` if the kind has no numbers of 8 to 64 bits.
+// Calls `$call` with the arguments `$first`, the numbers of two parts of one kind, the slice for
+// results of their type, `$present` and `$nulls`. Gives the error `NotServed` if the kind has no
+// numbers of 8 to 64 bits.
 macro_rules! into_one_kind {
     ($left:expr, $right:expr, $i8s:expr, $i16s:expr, $i32s:expr, $i64s:expr,
         $u8s:expr, $u16s:expr, $u32s:expr, $u64s:expr,
@@ -48,8 +49,9 @@ macro_rules! into_one_kind {
 
 pub(crate) use into_one_kind;
 
-// Calls a function with the numbers of a part, and with the caller's slice for results of their
-// type. Gives the error `NotServed` if the part's kind has no numbers of 8 to 64 bits.
+// Calls `$call` with the arguments `$first`, the numbers of a part, the slice for results of their
+// type, `$present` and `$nulls`. Gives the error `NotServed` if the part's kind has no numbers of 8
+// to 64 bits.
 macro_rules! into_kind {
     ($part:expr, $i8s:expr, $i16s:expr, $i32s:expr, $i64s:expr,
         $u8s:expr, $u16s:expr, $u32s:expr, $u64s:expr,
@@ -83,8 +85,9 @@ pub(crate) fn write_present(bits: &Bitmap, present: &mut [u64], nulls: &mut u64)
     }
 }
 
-/// Checks the sizes of the slices for results: `values` numbers have to be one for each row of the
-/// part, and `words` words need a bit for each row. The only error is `Room`.
+/// Checks the sizes of the slices for results. `values` is the length of the slice for numbers, and
+/// has to be the number of rows of the part. `words` is the length of the slice for the validity,
+/// and has to suffice for a bit for each row. The only error is `Room`.
 pub(crate) fn check_room(part: &Part<'_>, values: usize, words: usize) -> Result<(), Fault>
     ensures room { OnOk result (HasRoom part.now values words) }
     ensures refused { IfErr result (λ fault. fault ≡ Room) }

@@ -18,9 +18,11 @@ use arrow_parts::part::{Part, PartKind};
 use polars_compute_arithmetic::arithmetic::pl_num::PlNumArithmetic;
 use std::alloc::Global;
 
-// Applies a function to each number of a part. Writes the results into `out`, their validity into
-// `present`, and the number of nulls into `nulls`. Fails with `Parts`, `Room` or `Memory`; nothing
-// is then written.
+// Applies the function `sign` to each of `values`, the numbers of a part. Writes the results into
+// `out`, their validity into `present`, and the number of nulls into `nulls`.
+//
+// Fails with `Parts` if the part is not a valid column, with `Room` if `check_room` does, and with
+// `Memory` if an allocation fails. Nothing is then written.
 fn change_numbers<T: PlNumArithmetic>(
     alloc: Global,
     sign: Sign,
@@ -45,9 +47,9 @@ fn change_numbers<T: PlNumArithmetic>(
     Ok(())
 }
 
-// Applies a function to each number of a part, and writes the results into the slice of the part's
-// type. Fails with `NotServed` if the part has no numbers of 8 to 64 bits, and as `change_numbers`
-// does.
+// Applies the function `sign` to each number of a part, and writes the results into the slice of
+// the part's type. Fails with `NotServed` if the part has no numbers of 8 to 64 bits, and as
+// `change_numbers` does.
 fn change_part(
     alloc: Global,
     sign: Sign,

@@ -48,7 +48,8 @@ fn status(fault: StateFault) -> i32
     }
 }
 
-// The range of a state. `count` is how many numbers it has.
+// The range of a state: the integers from `least` to `greatest`, both included. `count` is how many
+// there are.
 #[derive(Clone, Copy, Drop)]
 pub(crate) struct Range {
     least: i128,
@@ -56,8 +57,9 @@ pub(crate) struct Range {
     count: usize,
 }
 
-// Checks the range from `least` to `greatest` of a state of `words` words, and returns it. Fails
-// with `NoRange` if `count_between` returns `None`, and with `Room` if there are too few words.
+// Returns the range from `least` to `greatest` of a state of `words` words. Fails with `NoRange` if
+// `greatest` is less than `least` or the range has too many numbers (see `count_between`). Fails
+// with `Room` if the words have fewer bits than the range has numbers.
 fn range_of(least: &Number, greatest: &Number, words: usize) -> Result<Range, StateFault>
     ensures range { IfOk result (IsRange least.now greatest.now words) }
     ensures refused { IfErr result (IsTrueRangeFault least.now greatest.now words) }
@@ -93,9 +95,10 @@ fn least_in<T: UniqueNumber>(range: &Range) -> Option<T>
     Some(least)
 }
 
-// Appends the numbers of a part to a state, and returns whether all rows are null or in the range;
-// if not, nothing is changed. Fails with `Types` if type `T` can't represent the range, and with
-// `Parts` or `Memory`.
+// Appends `values`, the numbers of a part, to the state in `words` and `flag`. Returns whether each
+// row is null or its number lies in `range`. If not, nothing is changed. Fails with `Types` if type
+// `T` can't represent the range, with `Parts` if the part is not a valid column, and with `Memory`
+// if an allocation fails.
 fn append_numbers<T: UniqueNumber>(
     alloc: Global,
     part: &Part<'_>,
@@ -120,9 +123,9 @@ fn append_numbers<T: UniqueNumber>(
     Ok(append(&column, &Span { least, count }, words, flag))
 }
 
-// Appends the rows of a part to a state, and returns whether all rows are null or in the range; if
-// not, nothing is changed. Fails with `NotServed` if the part has no numbers of 8 to 64 bits, and
-// as `append_numbers` does.
+// Appends the rows of a part to the state in `words` and `flag`. Returns whether each row is null
+// or its number lies in `range`. If not, nothing is changed. Fails with `NotServed` if the part has
+// no numbers of 8 to 64 bits, and as `append_numbers` does.
 fn append_part(
     alloc: Global,
     part: &Part<'_>,
@@ -240,7 +243,9 @@ pub extern "C" fn dunkelva_state_merge(
     }
 }
 
-// Counts the distinct values and the distinct rows that a state has seen. Fails as `range_of` does.
+// Sets `values` to the number of distinct values that a state has seen. Sets `rows` to the number
+// of distinct rows: one more than the values if a null was seen. Fails as `range_of` does; nothing
+// is then written.
 fn count_state(
     least: &Number,
     greatest: &Number,
@@ -284,9 +289,9 @@ pub extern "C" fn dunkelva_state_count(
     }
 }
 
-// Writes the distinct values that a state has seen into `out`, and whether a null was seen into
-// `has_null`. Fails as `range_of` does, and with `Room` if `out` is too short; nothing is then
-// written.
+// Writes the distinct values that a state has seen into `out`. Sets `has_null` to 1 if a null was
+// seen, and otherwise to 0. Fails as `range_of` does, and with `Room` if `out` is too short;
+// nothing is then written.
 fn list_state(
     least: &Number,
     greatest: &Number,

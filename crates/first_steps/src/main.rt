@@ -2,8 +2,8 @@
 //! are built from their parts.
 //!
 //! An order is a struct. Its items are a list of numbers, and its city is an entry of a dictionary.
-//! The second column of orders stores the same orders in another way: other numbers lie under the
-//! null list, and the dictionary has its cities in another order. One item differs.
+//! The second column of orders is equal to the first except for one item, but is stored in another
+//! way: the null list has stored items, and the cities in the dictionary are swapped.
 #![tactic(auto)]
 
 ghost use Rattle.std.specs.List.{All};
@@ -36,14 +36,16 @@ struct Parts<'a> {
     /// The offsets of the lists of items. Order `i` has the items from `offsets[i]` up to
     /// `offsets[i + 1]`.
     offsets: &'a [i32],
+    /// The items of all orders, one after another.
     items: &'a [i32],
     /// `false` for each order whose list of items is null.
     present: &'a [bool],
-    /// The index of each order's city.
+    /// For each order, the index of its city among the cities.
     keys: &'a [u8],
     /// The offsets of the cities. City `k` is the bytes of `cities` from `ends[k]` up to `ends[k +
     /// 1]`.
     ends: &'a [i32],
+    /// The names of the cities, one after another.
     cities: &'a str,
 }
 
@@ -55,7 +57,8 @@ fn items(alloc: Global, parts: &Parts) -> Result<Box<AnyArray>, Fault>
     Ok(Box::new(alloc, AnyArray::Int32(items))?)
 }
 
-/// Creates the array of lists of items.
+/// Creates the array with the list of items of each order. Fails with `Parts` if
+/// `ListArray::try_new` refuses the parts.
 fn lists(alloc: Global, parts: &Parts) -> Result<AnyArray, Fault>
     ensures { IfOk result (λ array. IsGood array) }
 {
@@ -67,7 +70,7 @@ fn lists(alloc: Global, parts: &Parts) -> Result<AnyArray, Fault>
     Ok(AnyArray::List(array))
 }
 
-/// Creates the array of cities.
+/// Creates the array of cities. Fails with `Parts` if `Utf8Array::try_new` refuses the parts.
 fn cities(alloc: Global, parts: &Parts) -> Result<Box<AnyArray>, Fault>
     ensures { IfOk result (λ array. IsGood array.value) }
 {
@@ -77,7 +80,8 @@ fn cities(alloc: Global, parts: &Parts) -> Result<Box<AnyArray>, Fault>
     Ok(Box::new(alloc, AnyArray::Utf8(array))?)
 }
 
-/// Creates the dictionary array that has the city of each order.
+/// Creates the dictionary array that has the city of each order. Fails with `Parts` if the offsets
+/// of the cities or the keys are refused.
 fn named_cities(alloc: Global, parts: &Parts) -> Result<AnyArray, Fault>
     ensures { IfOk result (λ array. IsGood array) }
 {
@@ -106,7 +110,7 @@ fn fields(alloc: Global) -> Result<Vec<Field>, Fault> {
     Ok(fields)
 }
 
-/// Creates the two child arrays of the orders.
+/// Creates the two child arrays of the orders: the lists of items, and the cities.
 fn columns(alloc: Global, parts: &Parts) -> Result<Vec<AnyArray>, Fault>
     ensures { IfOk result (λ columns. All IsGood columns.items) }
 {
@@ -116,7 +120,7 @@ fn columns(alloc: Global, parts: &Parts) -> Result<Vec<AnyArray>, Fault>
     Ok(columns)
 }
 
-/// Creates the struct array of the orders.
+/// Creates the struct array of the orders. Fails with `Parts` if the parts do not fit together.
 fn orders(alloc: Global, parts: &Parts) -> Result<Box<AnyArray>, Fault>
     ensures { IfOk result (λ array. IsGood array.value) }
 {
@@ -126,8 +130,9 @@ fn orders(alloc: Global, parts: &Parts) -> Result<Box<AnyArray>, Fault>
     Ok(Box::new(alloc, AnyArray::Struct(array))?)
 }
 
-/// Compares two columns row by row, and prints the result for each row. Null is equal to null
-/// alone. Fails with `Columns` if the columns differ in type or in length.
+/// Compares two columns row by row, and prints the result for each row, and then the number of
+/// comparisons of leaves. Null is equal to null alone. Fails with `Columns` if the columns differ
+/// in type or in length.
 fn print_same(
     rt: &(impl Print + AllocGlobal),
     left: &AnyArray,
@@ -144,7 +149,8 @@ fn print_same(
     print_rows(rt, &same, steps.seen())
 }
 
-/// Prints for each row whether the two rows are equal, and then the number of comparisons.
+/// Prints for each bit of `same` whether the two rows with this index are equal, and then the
+/// number of comparisons of leaves.
 fn print_rows(rt: &impl Print, same: &Bitmap, comparisons: u64) -> Result<(), Fault> {
     for i in 0..same.len() {
         let told = if same.get_bit(i) {
@@ -166,8 +172,8 @@ fn numbers(alloc: Global, values: &[i32], present: &[bool]) -> Result<PrimitiveA
     Ok(PrimitiveArray::try_new(values, Some(validity))?)
 }
 
-/// Compares two columns of numbers row by row, and prints the result for each row. Null is equal to
-/// null alone.
+/// Compares two columns of three numbers row by row, and prints the result for each row. Null is
+/// equal to null alone.
 fn compare_numbers(rt: &(impl Print + AllocGlobal)) -> Result<(), Fault> {
     let alloc = rt.alloc();
     let left = numbers(alloc, &[1, 2, 3], &[true, true, false])?;
@@ -209,6 +215,8 @@ fn compare_orders(rt: &(impl Print + AllocGlobal)) -> Result<(), Fault> {
     print_same(rt, &left, &right)
 }
 
+/// Compares the columns. Then builds orders from offsets that exceed the items, and prints how they
+/// are refused. Returns 1 if a step fails, or if these orders are not refused.
 fn main(rt: HostRuntime) -> ExitCode {
     if let Err(fault) = compare_numbers(&rt).and_then(|_| compare_orders(&rt)) {
         let _ = eprintln!(rt; "{fault}");

@@ -21,8 +21,8 @@ use json_decimals::error::NumberError;
 use json_paths::path::Step;
 use std::alloc::{AllocError, Global};
 
-/// Appends a change for each item of an array from index `from` on, which only the array on `side`
-/// has. `trail` is the path of the array. A change that the rules don't report is left out.
+/// Appends a change for each of `items` from index `from` on, unless the rules don't report it.
+/// Only the array on `side` has these items. `trail` is the path of the array.
 fn push_items(
     alloc: Global,
     rules: &Rules,
@@ -48,8 +48,9 @@ fn push_items(
     Ok(())
 }
 
-/// Appends the change of `added`, a member of the right object, if `found` is `None`. `found` is
-/// the value that the left object has at the name of `added`.
+/// Appends the change of `added`, a member of the right object, if `found` is `None` and the rules
+/// report the change. `found` is the value that the left object has at the name of `added`. `trail`
+/// is the path of the two objects.
 fn push_added_member(
     alloc: Global,
     rules: &Rules,
@@ -76,8 +77,9 @@ fn push_added_member(
     Ok(())
 }
 
-/// Appends the changes of the members that only the right object `other` has. `own` are the members
-/// of the left object.
+/// Appends a change for each member that only the right object has, unless the rules don't report
+/// it. `own` are the members of the left object, `other` those of the right one. `trail` is the
+/// path of the two objects.
 fn push_added_members<'a, 'b>(
     alloc: Global,
     rules: &Rules,
@@ -100,8 +102,9 @@ fn push_added_members<'a, 'b>(
     Ok(())
 }
 
-/// Appends the changes between two values at the path `trail`. Arrays are compared item by item,
-/// and objects member by member. Afterwards `trail` is unchanged.
+/// Appends the changes between two values at the path `trail`, except those that the rules don't
+/// report. Arrays are compared item by item, and objects member by member. Afterwards `trail` is
+/// unchanged.
 ///
 /// If this fails, some changes may be appended already, and `trail` may be longer.
 #[cycle(compare)]
@@ -131,8 +134,8 @@ pub(crate) fn compare<'a, 'b>(
     compare_leaves(alloc, rules, trail, changes, left, right)
 }
 
-/// Appends the changes between the items of two arrays at the path `trail`. Items with the same
-/// index are compared.
+/// Appends the changes between the items of two arrays at the path `trail`, as `compare` does.
+/// Items with the same index are compared, and each further item of the longer array is a change.
 #[cycle(compare)]
 fn compare_items<'a, 'b>(
     alloc: Global,
@@ -164,8 +167,9 @@ fn compare_items<'a, 'b>(
     Ok(())
 }
 
-/// Appends the changes between a member's value and the value `found` in the other object. If there
-/// is none, appends the change of a part that only the left side has.
+/// Appends the changes between `left`, the value of a member of the left object, and `found`, the
+/// value that the right object has at the same name. If `found` is `None`, appends the change of a
+/// part that only the left object has. `trail` is the path of the member.
 #[cycle(compare)]
 fn compare_found<'a, 'b>(
     alloc: Global,
@@ -195,8 +199,8 @@ fn compare_found<'a, 'b>(
     }
 }
 
-/// Appends the changes between the members of two objects at the path `trail`. Members with the
-/// same name are compared.
+/// Appends the changes between the members of two objects at the path `trail`, as `compare` does.
+/// Members with the same name are compared, and each member that only one object has is a change.
 #[cycle(compare)]
 fn compare_members<'a, 'b>(
     alloc: Global,

@@ -19,9 +19,9 @@ use json_decimals::numbers::push_normal_number;
 use json_paths::path::Step;
 use std::alloc::Global;
 
-/// Returns whether two texts are the same number, such as `1.5` and `1.50`. Fails with
-/// `WideExponent` if an exponent has more than 30 digits, not counting leading zeros, unless the
-/// texts are equal.
+/// Returns whether two texts are the same number, such as `1.5` and `1.50`. If the texts are equal,
+/// their exponents are not checked. Otherwise fails with `WideExponent` if an exponent has more
+/// than 30 digits, not counting leading zeros, and with `Memory` if an allocation fails.
 fn are_same_numbers(alloc: Global, left: &str, right: &str) -> Result<bool, NumberError>
     ensures same { IfOk result
         (λ b. b ≡ bytes_eq (normal_number left.now) (normal_number right.now)) }
@@ -40,7 +40,7 @@ fn are_same_numbers(alloc: Global, left: &str, right: &str) -> Result<bool, Numb
 }
 
 /// Returns whether two values are equal. They are not both arrays and not both objects, so an array
-/// or an object is not equal to the other value.
+/// or an object is not equal to the other value. For two numbers, fails like `are_same_numbers`.
 fn are_same(alloc: Global, left: &Value<'_>, right: &Value<'_>) -> Result<bool, NumberError>
     ensures same { IfOk result
         (λ b. b ≡ is_same_leaf (value_view left.now) (value_view right.now)) }
@@ -57,8 +57,8 @@ fn are_same(alloc: Global, left: &Value<'_>, right: &Value<'_>) -> Result<bool, 
     }
 }
 
-/// Appends the change between two values at the path `trail`, unless they are equal or the rules
-/// don't report it.
+/// Appends the change between `left` and `right`, the values at the path `trail`, unless they are
+/// equal or the rules don't report it. Fails like `are_same_numbers`.
 pub(crate) fn compare_leaves(
     alloc: Global,
     rules: &Rules,

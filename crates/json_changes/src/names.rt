@@ -14,7 +14,7 @@ use std::collections::BTreeMap;
 const FEW: usize = 16;
 
 /// Returns a map from the names of members to their values. The map is empty if there are at most
-/// `FEW` members.
+/// `FEW` members, since `find_in` searches these one by one.
 fn by_name<'v, 'a>(
     alloc: Global,
     members: &'v Vec<(&'a str, Value<'a>)>,
@@ -58,8 +58,8 @@ fn find_in<'v, 'a>(
     }
 }
 
-/// Returns, for each of `members`, the value of the member of `among` that has its name, or `None`
-/// if there is none.
+/// Returns an entry for each of `members`: the value of the member of `among` with the same name,
+/// or `None` if `among` has no such member.
 pub(crate) fn find_all<'v, 'a, 'b>(
     alloc: Global,
     members: &Vec<(&'a str, Value<'a>)>,

@@ -33,7 +33,7 @@ pub(crate) enum Side {
     Right,
 }
 
-/// Returns the text of a part as JSON, or `None` for `None`.
+/// Returns a part as JSON text, or `None` if `part` is `None`.
 fn text_of(alloc: Global, part: Option<&Value<'_>>) -> Result<Option<Vec<u8>>, AllocError>
     requires { IfSome part (λ v. HasNumbers (value_view v.now)) }
     ensures { IfOk result (λ text. option_map (λ v. v.items) text
@@ -76,7 +76,7 @@ pub(crate) fn push_change(
 }
 
 /// Appends the change of a part that only the value on `side` has, unless the rules don't report
-/// it.
+/// it. `trail` is the path of the part.
 pub(crate) fn push_alone(
     alloc: Global,
     rules: &Rules,

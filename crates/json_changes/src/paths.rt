@@ -40,8 +40,8 @@ fn push_quoted(alloc: Global, path: &mut Vec<u8>, name: &str) -> Result<(), Allo
     Ok(())
 }
 
-/// Appends the step to the member named `key`: `.key`, or `."a b"` if the name needs quotes. At the
-/// beginning of a path a name without quotes has no dot.
+/// Appends the text of the step to the member named `key`: `.key`, or `."a b"` if the name needs
+/// quotes. At the beginning of a path a name without quotes has no dot.
 fn push_name(alloc: Global, path: &mut Vec<u8>, key: &str) -> Result<(), AllocError>
     ensures { OnOk result (path.new.items ≡ with_step path.old.items (name key.now)) }
 {
@@ -56,7 +56,7 @@ fn push_name(alloc: Global, path: &mut Vec<u8>, key: &str) -> Result<(), AllocEr
     Ok(())
 }
 
-/// Appends the step to the item at index `i`, such as `[0]`.
+/// Appends the text of the step to the item at index `i`, such as `[0]`.
 fn push_place(path: &mut Vec<u8>, i: usize) -> Result<(), AllocError>
     ensures { OnOk result (path.new.items ≡ with_step path.old.items (place i)) }
 {
@@ -67,7 +67,7 @@ fn push_place(path: &mut Vec<u8>, i: usize) -> Result<(), AllocError>
     Ok(())
 }
 
-/// Appends a step of a path as text.
+/// Appends the text of a step to `path`.
 fn push_step(alloc: Global, path: &mut Vec<u8>, step: &Step) -> Result<(), AllocError>
     ensures { OnOk result (path.new.items ≡ with_step path.old.items (step_view step.now)) }
 {

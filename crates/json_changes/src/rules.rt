@@ -31,10 +31,12 @@ pub struct Tolerance {
 /// The rules that say which differences between two values are reported.
 #[derive(Drop)]
 pub struct Rules {
-    /// The parts whose differences are never reported.
+    /// The patterns of the parts whose differences are never reported. Differences inside these
+    /// parts are not reported either.
     pub ignored: Vec<Pattern>,
-    /// The only parts whose differences are reported. If the list is empty, this rule does not
-    /// apply.
+    /// The patterns of the only parts whose differences are reported. A difference of a part inside
+    /// such a part, or of a part that contains it, is reported too. If the list is empty, this rule
+    /// does not apply.
     pub only: Vec<Pattern>,
     /// `true` if a missing part is equal to null.
     pub missing_is_null: bool,
@@ -81,7 +83,8 @@ fn is_nothing(part: Option<&Value<'_>>) -> bool
     matches!(part, None | Some(Value::Null))
 }
 
-/// Returns whether two numbers differ by at most a margin.
+/// Returns whether two numbers differ by at most a margin. Their exponents must have at most 30
+/// digits, not counting leading zeros.
 fn is_within(margin: &Margin, left: &str, right: &str) -> bool
     requires left { ¬ HasWideExponent left.now }
     requires right { ¬ HasWideExponent right.now }
@@ -107,7 +110,9 @@ fn are_close(margin: &Margin, left: Option<&Value<'_>>, right: Option<&Value<'_>
 }
 
 impl Tolerance {
-    /// Returns whether the tolerance allows the difference between two parts at a path.
+    /// Returns whether the tolerance allows the difference between `left` and `right`: its pattern
+    /// names the part at `path` or a part that contains it, and both are numbers that differ by at
+    /// most its margin.
     fn allows(&self, path: &[Step], left: Option<&Value<'_>>, right: Option<&Value<'_>>) -> bool
         requires { PartsAreNarrow (option_map (λ v. value_view v.now) left)
             (option_map (λ v. value_view v.now) right) }
@@ -155,7 +160,8 @@ impl Rules {
         }
     }
 
-    /// Returns whether the rules report the difference between two parts at a path.
+    /// Returns whether the rules report the difference between `left` and `right`, the parts at
+    /// `path` of the two values. `None` is a missing part.
     pub(crate) fn tell(
         &self,
         path: &[Step],

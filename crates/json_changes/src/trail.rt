@@ -7,7 +7,7 @@ ghost use Rattle.json_changes.specs.Texts.{trail_view};
 use json_paths::path::Step;
 use std::alloc::{AllocError, Global};
 
-/// Appends the step to the member named `key` to a path.
+/// Extends the path `trail` by the step to the member named `key`.
 pub(crate) fn push_member_step(
     alloc: Global,
     trail: &mut Vec<Step>,
@@ -22,7 +22,7 @@ pub(crate) fn push_member_step(
     Ok(())
 }
 
-/// Appends the step to the item at index `i` to a path.
+/// Extends the path `trail` by the step to the item at index `i`.
 pub(crate) fn push_item_step(trail: &mut Vec<Step>, i: usize) -> Result<(), AllocError>
     ensures path { OnOk result
         (trail_view trail.new.items ≡ trail_view trail.old.items ++ place i ∷ []) }

@@ -7,7 +7,8 @@ use fast_float::Numeral;
 use std::alloc::AllocError;
 use std::marker::Model;
 
-/// The digits of a number's text: those before its point, followed by those after it.
+/// The digits of a number's text: those before its point (`whole`), followed by those after it
+/// (`fraction`).
 #[derive(Drop)]
 pub(crate) struct Digits<'a> {
     whole: &'a [u8],
@@ -74,7 +75,7 @@ impl<'a> Digits<'a> {
         n
     }
 
-    /// Appends the digits from index `from` up to index `to`.
+    /// Appends the digits at the indices `from..to` to `out`.
     pub(crate) fn push(&self, out: &mut Vec<u8>, from: usize, to: usize) -> Result<(), AllocError>
         requires ordered { from ≤ to }
         requires within { to ≤ length self.now }

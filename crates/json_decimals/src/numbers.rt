@@ -21,7 +21,8 @@ pub fn is_negative(text: &[u8]) -> bool
     }
 }
 
-/// Splits the text of a number, after its sign, into its digits and its exponent.
+/// Splits the text of a number into its digits and its exponent. A minus sign at the beginning is
+/// skipped.
 pub fn numeral_of(text: &[u8]) -> Numeral<'_>
     ensures { result ≡ parts_of text.now }
 {

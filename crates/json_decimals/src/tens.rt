@@ -10,19 +10,19 @@ use fast_float::Numeral;
 use itoa::Buffer;
 use std::alloc::AllocError;
 
-/// A power of ten, `10^up / 10^down`, by which the digits of a number, read as an integer, are
-/// multiplied.
+/// A power of ten: `10^up / 10^down`. A number without its sign is its digits, read as an integer,
+/// times such a power.
 #[derive(Clone, Copy, Drop)]
 pub struct Tens {
-    /// The exponent of the multiplying power.
+    /// The exponent of the power by which the digits are multiplied.
     pub up: u128,
-    /// The exponent of the dividing power.
+    /// The exponent of the power by which the digits are divided.
     pub down: u128,
 }
 
 impl Tens {
-    /// Returns the power of ten that remains if `zeros` zeros are removed from the end of the
-    /// digits. `up` or `down` of the result is 0.
+    /// Returns the power of ten that keeps the number unchanged when `zeros` zeros are removed from
+    /// the end of its digits. `up` or `down` of the result is 0.
     pub(crate) fn with_zeros(self, zeros: usize) -> Tens
         requires { self.up + self.down < 10 ^ 31 }
         ensures up { result.up ≡ self.up + zeros - self.down }
@@ -36,8 +36,8 @@ impl Tens {
     }
 }
 
-/// Returns the integer that the digits are, or `None` if it has more than 30 digits, not counting
-/// leading zeros.
+/// Reads ASCII digits as an integer. Returns `None` if the integer has more than 30 digits, not
+/// counting leading zeros.
 fn value_of(digits: &[u8]) -> Option<u128>
     requires { AllDigits 10 digits.now }
     ensures { SomeIff result (digits_value 10 digits.now < 10 ^ 30) (digits_value 10 digits.now) }
@@ -77,7 +77,8 @@ pub fn tens_of(numeral: &Numeral<'_>) -> Option<Tens>
     }
 }
 
-/// Appends an exponent such as `e2` or `e-1`, or nothing if the power of ten is 1.
+/// Appends an exponent to `out`: `e` and `tens.up`, such as `e2`, or, if `tens.up` is 0, `e-` and
+/// `tens.down`, such as `e-1`. Appends nothing if both are 0.
 pub(crate) fn push_tens(out: &mut Vec<u8>, tens: Tens) -> Result<(), AllocError>
     requires { tens.up + tens.down < 10 ^ 32 }
     ensures { OnOk result (out.new.items ≡ out.old.items ++ tens_text tens.up tens.down) }

@@ -9,7 +9,7 @@ use crate::tally::Tally;
 use json::Value;
 use std::alloc::{AllocError, Global};
 
-/// A path, and the values that documents have at it.
+/// A path, and a summary of the values that documents have at this path.
 #[derive(Drop)]
 pub struct Group<T> {
     /// The path as text, in which `[]` is any item.
@@ -23,16 +23,16 @@ pub struct Group<T> {
     last: usize,
 }
 
-/// Returns `n + 1`, or an error if that is too large.
+/// Returns `n + 1`, or an error if this overflows.
 pub(crate) fn one_more(n: usize) -> Result<usize, AllocError>
     ensures { IfOk result (λ m. m ≡ n + 1) }
 {
-    // No memory holds so many documents, so the error is that of an allocation.
+    // No memory holds this many documents, so the error is that of an allocation.
     n.checked_add(1).ok_or(AllocError)
 }
 
 impl<T: Tally> Group<T> {
-    /// Creates the group of a path. It has no values.
+    /// Creates a group without values for a path.
     pub(crate) fn new(alloc: Global, path: &[u8]) -> Result<Group<T>, AllocError>
         ensures path { IfOk result (λ g. g.path.items ≡ path.now) }
         ensures documents { IfOk result (λ g. g.documents ≡ 0) }
@@ -49,7 +49,7 @@ impl<T: Tally> Group<T> {
         })
     }
 
-    /// Counts the document with this number, unless it is the last one that was counted.
+    /// Counts the document with the number `document`, unless it is the last one that was counted.
     fn note(&mut self, document: usize) -> Result<(), AllocError>
         ensures documents { OnOk result
             (self.new.documents
@@ -66,7 +66,8 @@ impl<T: Tally> Group<T> {
         Ok(())
     }
 
-    /// Adds a value of the document with this number.
+    /// Adds `value`, which the document with the number `document` has at the path. If this fails,
+    /// the document may have been counted already.
     pub(crate) fn add(&mut self, document: usize, value: &Value<'_>) -> Result<(), AllocError>
         ensures documents { OnOk result
             (self.new.documents

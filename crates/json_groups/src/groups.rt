@@ -17,6 +17,7 @@ use std::collections::HashMap;
 pub struct Groups<T> {
     // The index in `groups` of the group of each path.
     places: HashMap<Vec<u8>, usize>,
+    // The groups, in the order in which their paths were first added.
     groups: Vec<Group<T>>,
     // The number of documents that were added, including the one that is being added.
     documents: usize,
@@ -36,7 +37,8 @@ impl<T: Tally> Groups<T> {
         }
     }
 
-    /// Adds a value at a path that has no group yet, and creates the group.
+    /// Creates the group of a path that has no group yet, and adds a value of the current document
+    /// to it.
     fn add_first(&mut self, alloc: Global, path: &[u8], value: &Value<'_>) -> Result<(), AllocError>
         ensures { OnOk result ((done : List (List Part)) (parts : List Part)
             → place_of path.now self.old.places ≡ None → HoldsParts T.Gathers done parts self.old
@@ -51,7 +53,8 @@ impl<T: Tally> Groups<T> {
         Ok(())
     }
 
-    /// Adds a value of the current document at a path.
+    /// Adds a value of the current document to the group of its path. Creates the group if there is
+    /// none.
     fn add(&mut self, alloc: Global, path: &[u8], value: &Value<'_>) -> Result<(), AllocError>
         requires { (done : List (List Part)) × (parts : List Part)
             × HoldsParts T.Gathers done parts self.old }

@@ -7,7 +7,7 @@ ghost use Rattle.json_normal.specs.Laws.{NumbersAreReadWhole, TextReadsBack};
 /// States the laws of normal forms of values whose objects have no name twice. Two values are equal
 /// if and only if they have the same normal form, and if and only if they have the same normal
 /// text. The normal text of a value of at most `max_depth` levels is JSON of the value's normal
-/// form.
+/// form. The members of an object may be in any order, and each number is read from its whole text.
 pub fn normal_laws()
     ensures members_in_any_order { MembersInAnyOrder }
     ensures normal_forms_tell { NormalFormsTell }

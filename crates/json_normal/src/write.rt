@@ -21,7 +21,7 @@ use json_decimals::numbers::push_normal_number;
 use std::alloc::Global;
 use std::str::from_utf8_unchecked;
 
-/// Writes a token.
+/// Writes a token. Fails with `Memory` if an allocation fails.
 fn write_token(writer: &mut Writer, token: Token<'_>) -> Result<(), NumberError>
     requires { IsPrintable (token_of token) }
     ensures ok { OnOk result (writer.new.tokens
@@ -83,7 +83,8 @@ pub fn write_normal<'a>(
     }
 }
 
-/// Writes the items of an array and its closing bracket.
+/// Writes the normal texts of the items of an array, and then its closing bracket. Fails like
+/// `write_normal`.
 #[cycle(normal)]
 fn write_items<'a>(
     alloc: Global,
@@ -103,7 +104,8 @@ fn write_items<'a>(
     write_token(writer, Token::EndArray)
 }
 
-/// Writes the members of an object, sorted by name, and its closing bracket.
+/// Writes the members of an object, sorted by name, with the normal texts of their values, and then
+/// the closing brace. Fails like `write_normal`.
 #[cycle(normal)]
 fn write_members<'a>(
     alloc: Global,

@@ -9,8 +9,8 @@ ghost use Rattle.json_parts.specs.Parts.{item_path};
 use json::{Value, to_vec};
 use std::alloc::{AllocError, Global};
 
-/// Returns whether all bytes can be in a name without quotes: letters and digits of ASCII, `_` and
-/// `-`.
+/// Returns whether all bytes are ASCII letters, ASCII digits, `_` or `-`. A name with other bytes
+/// is quoted in a path.
 fn are_plain(bytes: &[u8]) -> bool
     ensures { result ≡ list_all is_plain_byte bytes.now }
 {
@@ -19,14 +19,15 @@ fn are_plain(bytes: &[u8]) -> bool
         .all(|b| b.is_ascii_alphanumeric() || *b == b'_' || *b == b'-')
 }
 
-/// Returns whether a name needs no quotes in a path.
+/// Returns whether a name needs no quotes in a path: it is not empty, and its bytes are plain
+/// (`are_plain`).
 fn is_plain(name: &str) -> bool
     ensures { result ≡ is_plain name.now }
 {
     !name.is_empty() && are_plain(name.as_bytes())
 }
 
-/// Appends a name as a JSON string.
+/// Appends a name to a path as a JSON string.
 fn push_quoted(alloc: Global, path: &mut Vec<u8>, name: &str) -> Result<(), AllocError>
     ensures { OnOk result (path.new.items ≡ path.old.items ++ quoted name.now) }
 {

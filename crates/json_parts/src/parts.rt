@@ -9,14 +9,15 @@ use crate::names::{push_any_item, push_name};
 use json::Value;
 use std::alloc::{AllocError, Global};
 
-/// A part of a value, and its path. The path is a text in which `[]` is any item of an array.
+/// A member's value or an item at some depth inside a JSON value, and its path. The path is a text
+/// in which `[]` is any item of an array.
 #[derive(Drop)]
 pub struct Part<'v, 'a> {
     pub path: Vec<u8>,
     pub value: &'v Value<'a>,
 }
 
-/// Appends a part with its path.
+/// Appends `value` to `parts`, with a copy of the path `path`.
 fn push_part<'v, 'a>(
     alloc: Global,
     path: &[u8],
@@ -31,7 +32,8 @@ fn push_part<'v, 'a>(
     Ok(())
 }
 
-/// Appends the parts of a value at the path `path`. Afterwards `path` is unchanged.
+/// Appends the parts of `value`, which is at the path `path`, but not `value` itself. `path` is
+/// restored unless this fails.
 #[cycle(parts)]
 fn push_below<'v, 'a>(
     alloc: Global,
@@ -51,7 +53,8 @@ fn push_below<'v, 'a>(
     }
 }
 
-/// Appends each item of an array at the path `path`, followed by the parts of the item.
+/// Appends each item of an array at the path `path`, followed by the parts of the item. `path` is
+/// restored unless this fails.
 #[cycle(parts)]
 fn push_items<'v, 'a>(
     alloc: Global,
@@ -74,7 +77,8 @@ fn push_items<'v, 'a>(
     Ok(())
 }
 
-/// Appends the value of each member of an object at the path `path`, followed by its parts.
+/// Appends the value of each member of an object at the path `path`, followed by the parts of this
+/// value. `path` is restored unless this fails.
 #[cycle(parts)]
 fn push_members<'v, 'a>(
     alloc: Global,

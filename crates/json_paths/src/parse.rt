@@ -56,7 +56,8 @@ fn plain_end(bytes: &[u8], start: usize) -> usize
 }
 
 /// Reads the name without quotes that begins at byte `start`. The dot before it was read already,
-/// or is missing. Fails with `Invalid` if the name is empty.
+/// or is missing. Fails with `Invalid` if the name is empty, and with `Memory` if an allocation
+/// fails.
 fn plain_name(alloc: Global, text: &str, start: usize) -> Result<Found, PathError>
     requires starts { IsCharBoundary text.now start }
     requires unquoted { slice_index text.now start ≢ quote }
@@ -71,8 +72,8 @@ fn plain_name(alloc: Global, text: &str, start: usize) -> Result<Found, PathErro
     Ok(Found { step, end })
 }
 
-/// Returns the index after the closing quote of a name, or `None` if there is none. The opening
-/// quote is at byte `start`.
+/// Returns the index after the closing quote of a name, or `None` if there is no closing quote. The
+/// opening quote is at byte `start`.
 fn quoted_end(bytes: &[u8], start: usize) -> Option<usize>
     requires { start < length bytes.now }
     ensures { result
@@ -88,7 +89,8 @@ fn quoted_end(bytes: &[u8], start: usize) -> Option<usize>
     None
 }
 
-/// Returns the text of a JSON string. Fails with `Invalid` if `quoted` is not a JSON string.
+/// Parses the JSON string `quoted`, and returns a copy of the text that it stands for. Fails with
+/// `Invalid` if `quoted` is not a JSON string, and with `Memory` if an allocation fails.
 fn unquoted(alloc: Global, quoted: &str) -> Result<String, PathError>
     ensures read { IfOk result (λ name. document quoted.now ≡ Some (string (string_bytes name))) }
     ensures invalid { IfErr result
@@ -103,8 +105,8 @@ fn unquoted(alloc: Global, quoted: &str) -> Result<String, PathError>
     }
 }
 
-/// Reads the name within quotes whose opening quote is at byte `start`. Fails with `Invalid` if it
-/// is not a JSON string.
+/// Reads the name within quotes. Its opening quote is at byte `start`. Fails with `Invalid` if the
+/// name with its quotes is not a JSON string, and with `Memory` if an allocation fails.
 fn quoted_name(alloc: Global, text: &str, start: usize) -> Result<Found, PathError>
     requires within { start < length text.now }
     requires quoted { slice_index text.now start ≡ quote }
@@ -118,7 +120,8 @@ fn quoted_name(alloc: Global, text: &str, start: usize) -> Result<Found, PathErr
     Ok(Found { step, end })
 }
 
-/// Reads the name that begins at byte `start`, with quotes or without them.
+/// Reads the name that begins at byte `start`, with quotes or without them. Fails with `Invalid` if
+/// there is no valid name, and with `Memory` if an allocation fails.
 fn name_at(alloc: Global, text: &str, start: usize) -> Result<Found, PathError>
     requires { IsCharBoundary text.now start }
     ensures { Finds text.now start (dot ∷ drop start text.now) result }
@@ -129,7 +132,7 @@ fn name_at(alloc: Global, text: &str, start: usize) -> Result<Found, PathError>
     plain_name(alloc, text, start)
 }
 
-/// Returns the index that decimal digits write, or `None` if the text is not digits or the index is
+/// Parses an index in decimal digits. Returns `None` if the text is not digits, or if the index is
 /// 2^64 or more.
 fn place_of(digits: &str) -> Option<usize>
     ensures { MatchOption result ((i : _) → ¬ (IsPlaceText digits.now i))
@@ -142,8 +145,9 @@ fn place_of(digits: &str) -> Option<usize>
     digits.parse::<usize>().ok()
 }
 
-/// Reads the step after an opening bracket, from byte `start` on: an index or nothing, and the
-/// closing bracket. Nothing means any item. Fails with `Invalid` for other texts.
+/// Reads the rest of a step in brackets. The opening bracket is before byte `start`. An index and a
+/// closing bracket are the step to the item at this index. A closing bracket alone is the step to
+/// any item. Fails with `Invalid` for any other text.
 fn item_at(text: &str, start: usize) -> Result<Found, PathError>
     requires { IsCharBoundary text.now start }
     ensures { Finds text.now start (open_bracket ∷ drop start text.now) result }
@@ -166,7 +170,7 @@ fn item_at(text: &str, start: usize) -> Result<Found, PathError>
 }
 
 /// Reads the step that begins at byte `start`. The dot before the first name may be missing. Fails
-/// with `Invalid` if there is no step.
+/// with `Invalid` if there is no step, and with `Memory` if an allocation fails.
 fn step_at(alloc: Global, text: &str, start: usize) -> Result<Found, PathError>
     requires { start < length text.now }
     ensures { Finds text.now start (left_at text.now start) result }

@@ -14,7 +14,8 @@ pub enum PatternStep {
     AnyItem,
 }
 
-/// A path that may have the step to any item of an array. It names all parts whose paths fit it.
+/// A path in which a step may stand for any item of an array. It names all parts of a value whose
+/// paths fit it.
 #[derive(Drop)]
 pub struct Pattern {
     pub steps: Vec<PatternStep>,

@@ -2,8 +2,9 @@
 
 ghost use Rattle.json_plain.specs.Laws.{HighOnesAreEscaped, LowOnesAreEscaped, ValuesAreKept};
 
-/// States that a plain JSON text has no control character, if the original text has no byte below
-/// 32. The plain text of a printed value of at most `max_depth` levels is JSON of the same value.
+/// States that the output of `push_plain_json` has no control character, if its input has no byte
+/// below 32. If the input is a value of at most `max_depth` levels, printed without whitespace, the
+/// output is JSON of the same value.
 pub fn plain_laws()
     ensures high { HighOnesAreEscaped }
     ensures low { LowOnesAreEscaped }

@@ -42,7 +42,7 @@ fn push_escape(out: &mut Vec<u8>, code: u8) -> Result<(), AllocError>
 
 /// Appends the output for `byte`. For the first byte of a character from U+0080 to U+009F this is
 /// nothing, since its escape is written for the second byte. `before` and `after` are the adjacent
-/// bytes.
+/// bytes, or 0 where there is none.
 #[tactic(auto, unfolding(crate::specs::Plain::plain_byte))]
 fn push_byte(out: &mut Vec<u8>, before: u8, byte: u8, after: u8) -> Result<(), AllocError>
     ensures { OnOk result (out.new.items ≡ out.old.items ++ plain_byte before byte after) }

@@ -11,8 +11,8 @@ use json::is_number;
 use json_decimals::tens::Tens;
 use std::marker::Model;
 
-/// A bound for the difference of two numbers. It is a decimal of at most 18 digits, and not
-/// negative.
+/// A bound for the difference of two numbers: the decimal `coefficient * 10^up / 10^down`. It is
+/// not negative, and `coefficient` has at most 18 digits.
 #[derive(Drop)]
 pub struct Bound {
     coefficient: u64,
@@ -68,7 +68,7 @@ impl Bound {
         })
     }
 
-    /// Returns the digits, read as an integer.
+    /// Returns the digits of the bound, read as an integer.
     pub(crate) fn coefficient(&self) -> u64
         ensures { result ≡ self.now.coefficient }
     {

@@ -13,7 +13,8 @@ pub fn closeness_laws()
 {}
 
 /// States that of two numbers at most one is less than the other. They are equal if and only if
-/// neither is less. If `a` is less than `c`, and `b` is not, then `a` is less than `b`.
+/// neither is less. If `a` is less than `c`, and `b` is not less than `c`, then `a` is less than
+/// `b`.
 pub fn order_laws()
     ensures passes_on { LessPassesOn }
     ensures one_way { LessIsOneWay }

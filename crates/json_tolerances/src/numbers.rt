@@ -88,8 +88,8 @@ impl<'a> Number<'a> {
         value_of(self.numeral.whole(), self.numeral.fraction())
     }
 
-    /// Returns the digits, read as an integer, times `10^(up + more)`. `up` is the exponent of the
-    /// number's own multiplying power of ten.
+    /// Returns the digits, read as an integer, times `10^(up + more)`, where `up` is
+    /// `self.tens().up`.
     pub(crate) fn times_tens(&self, more: u128) -> Term<'a>
         requires { more < 10 ^ 32 }
         ensures { result ≡ self.now.coefficient * 10 ^ (self.now.up + more) }

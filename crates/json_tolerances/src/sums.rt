@@ -6,8 +6,8 @@ ghost use Rattle.std.specs.Prelude.{◌≡◌, ℕ, ◌+◌, ◌-◌, ◌*◌, �
 use crate::terms::Term;
 use std::cmp::Ordering;
 
-/// Returns a digit position, at most `place`, such that all three numbers have only zeros from it
-/// up to `place`. The comparison skips these digits. Position 0 is the last digit.
+/// Returns a position `p`, at most `place`, such that the digits of all three numbers at the
+/// positions `p..place` are 0. The comparison skips these digits. Position 0 is the last digit.
 fn next_place(x: &Term<'_>, y: &Term<'_>, z: &Term<'_>, place: u128) -> u128
     ensures within { result ≤ place }
     ensures first { x.now / 10 ^ result ≡ x.now / 10 ^ place * 10 ^ (place - result) }

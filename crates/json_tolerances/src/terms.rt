@@ -9,8 +9,8 @@ ghost use Rattle.fast_float.specs.Text.{digits_of};
 use fast_float::Numeral;
 use std::marker::Model;
 
-/// A natural number: digits, read as an integer, times a power of ten. The digits are borrowed, and
-/// those of `fraction` follow those of `whole`.
+/// A natural number: the digits of `whole`, followed by those of `fraction`, read as an integer,
+/// times `10^tens`. The digits are borrowed.
 #[derive(Drop)]
 pub(crate) struct Term<'a> {
     whole: &'a [u8],
@@ -29,7 +29,7 @@ impl<'a> Model for Term<'a> {
     ghost invariant = { λ t. AllDigits 10 (t.whole.now ++ t.fraction.now) × (t.tens < 10 ^ 33) };
 }
 
-/// Returns the byte at index `i` of two slices, one after the other.
+/// Returns the byte at index `i` of the bytes of `front` followed by those of `back`.
 fn byte_at(front: &[u8], back: &[u8], i: usize) -> u8
     requires { i < length (front.now ++ back.now) }
     ensures { result ≡ slice_index (front.now ++ back.now) i }
@@ -92,8 +92,8 @@ impl<'a> Term<'a> {
         (self.whole.len() + self.fraction.len()) as u128 + self.tens
     }
 
-    /// Returns a digit position, at most `place`, such that all digits from it up to `place` are
-    /// zeros. Position 0 is the last digit.
+    /// Returns a position `p`, at most `place`, such that all digits at the positions `p..place`
+    /// are 0. Position 0 is the last digit.
     pub(crate) fn zeros_from(&self, place: u128) -> u128
         ensures within { result ≤ place }
         ensures zeros { (p : ℕ) → result ≤ p → p ≤ place

@@ -28,7 +28,7 @@ A command is an operation, a type, and rows, with a bar between two lists of row
 docs/LINES.md has all operations. A line that can't be answered prints
 `line N: refused: WORD`, and the status is then 1.";
 
-/// Returns the command-line arguments after the program's name.
+/// Returns the command-line arguments after the program's name, or the error of reading them.
 fn read_arguments<R: Env + AllocGlobal>(rt: &R) -> io::Result<Vec<String>> {
     let mut words = Vec::new(rt.alloc());
     for word in env::args(rt)?.skip(1) {
@@ -52,13 +52,13 @@ const NO_LINES: Report = Report {
     refused: 0,
 };
 
-/// Prints the demo. Returns the report of a run without lines.
+/// Prints the demo. Returns the report of a run without lines, or the error of `demo`.
 fn print_demo(rt: &(impl Print + AllocGlobal)) -> Result<Report, RunError> {
     demo(rt.alloc(), &mut io::writer(rt))?;
     Ok(NO_LINES)
 }
 
-/// Prints a text and a line feed. Returns the report of a run without lines.
+/// Prints a text and a line feed. Returns the report of a run without lines. The error is `Write`.
 fn print_text(rt: &impl Print, text: &str) -> Result<Report, RunError> {
     match println!(rt; "{text}") {
         Ok(()) => Ok(NO_LINES),
@@ -66,7 +66,8 @@ fn print_text(rt: &impl Print, text: &str) -> Result<Report, RunError> {
     }
 }
 
-/// Prints the name and the version of the program. Returns the report of a run without lines.
+/// Prints the name and the version of the program. Returns the report of a run without lines. The
+/// error is `Write`.
 fn print_version(rt: &impl Print) -> Result<Report, RunError> {
     match println!(rt; "polars_tables {VERSION}") {
         Ok(()) => Ok(NO_LINES),
@@ -74,6 +75,8 @@ fn print_version(rt: &impl Print) -> Result<Report, RunError> {
     }
 }
 
+/// Runs the command that the arguments ask for, and returns the exit status. It is 2 if the
+/// arguments are wrong, and otherwise that of `end`.
 fn main(rt: HostRuntime) -> ExitCode {
     match asked(&read_arguments(&rt)) {
         Ok(Command::Lines) => {

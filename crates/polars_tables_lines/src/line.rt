@@ -23,9 +23,9 @@ use polars_tables_rows::row_type::RowType;
 use polars_tables_rows::words::{next_word, parse_lists};
 use std::alloc::Global;
 
-// Runs an operation on numbers of the type `T`. The text has the lists of rows. The error is
-// `TypeName` if the operation does not accept numbers, or an error of the lists or of the
-// operation.
+// Runs an operation on the lists of numbers of type `T` in `text`, and returns its result as text.
+// The error is `TypeName` if the operation does not accept numbers, or an error of parsing the
+// lists or of running the operation.
 fn answer_numbers<T: LineNumber>(
     alloc: Global,
     operation: Operation,
@@ -47,8 +47,9 @@ fn answer_numbers<T: LineNumber>(
     }
 }
 
-// Runs an operation on truth values. The text has the lists of rows. The error is `TypeName` if the
-// operation does not accept truth values, or an error of the lists or of the operation.
+// Runs an operation on the lists of truth values in `text`, and returns its result as text. The
+// error is `TypeName` if the operation does not accept truth values, or an error of parsing the
+// lists or of running the operation.
 fn answer_booleans(alloc: Global, operation: Operation, text: &str) -> Result<String, LineError>
     ensures { Tells string_bytes (rows_meaning operation Boolean (words_of text.now)) result }
 {
@@ -66,8 +67,9 @@ fn answer_booleans(alloc: Global, operation: Operation, text: &str) -> Result<St
     }
 }
 
-// Runs an operation on rows of a type. The text has the lists of rows. The error is `TypeName` if
-// the operation does not accept the type, or an error of the lists or of the operation.
+// Runs an operation on the lists of rows in `text`, which have the type `row_type`, and returns its
+// result as text. The error is `TypeName` if the operation does not accept the type, or an error of
+// parsing the lists or of running the operation.
 fn answer_rows(
     alloc: Global,
     operation: Operation,
@@ -89,9 +91,9 @@ fn answer_rows(
     }
 }
 
-// Runs an operation on the text after its name: the name of a type, and lists of rows. The error is
-// `TypeName` if there is no such type or the operation does not accept it, or an error of the lists
-// or of the operation.
+// Runs an operation on `text`, the rest of a line after the name of the operation: the name of a
+// type, and lists of rows. Returns the result as text. The error is `TypeName` if there is no such
+// type or the operation does not accept it, or an error of `answer_rows`.
 fn answer_typed(alloc: Global, operation: Operation, text: &str) -> Result<String, LineError>
     ensures { Tells string_bytes (typed_meaning operation (words_of text.now)) result }
 {
@@ -104,8 +106,8 @@ fn answer_typed(alloc: Global, operation: Operation, text: &str) -> Result<Strin
     }
 }
 
-/// Runs the command in a line, and returns its result as text, without a line feed. Returns the
-/// first fault of the line if it has one. The error is `Memory` only if an allocation failed.
+/// Runs the command in a line, and returns its result as text, without a line feed. If the line has
+/// a fault, the error is its first fault. The error is `Memory` only if an allocation failed.
 ///
 /// For example, the line `add i8 127 null | 1 2` has the result `-128 null`.
 pub fn answer_line(alloc: Global, line: &str) -> Result<String, LineError>

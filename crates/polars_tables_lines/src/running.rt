@@ -131,7 +131,8 @@ fn fault_word(fault: &LineError) -> &'static str
     }
 }
 
-/// Runs the command in a line of bytes. The error for a line that is not UTF-8 is `Op`.
+/// Runs the command in a line of bytes, and returns its result as text. The error is `Op` if the
+/// line is not UTF-8, or an error of `answer_line`.
 fn answer_bytes(alloc: Global, line: &[u8]) -> Result<String, LineError>
     ensures { Tells string_bytes (meaning_of line.now) result }
 {
@@ -199,7 +200,7 @@ impl Answers {
     }
 }
 
-/// Returns the index of the first line feed, or `None` if there is none.
+/// Returns the index of the first line feed of `text`, or `None` if there is none.
 fn line_end(text: &[u8]) -> Option<usize>
     ensures { result ≡ position (λ c. c == 10) text.now }
 {
@@ -219,7 +220,7 @@ fn split_line(text: &[u8]) -> (&[u8], &[u8])
     }
 }
 
-/// Runs the commands in all lines of an input. The error is `Memory`.
+/// Runs the commands in all lines of an input, and returns the output. The error is `Memory`.
 fn answer_lines(alloc: Global, input: &[u8]) -> Result<Answers, RunError>
     ensures text { IfOk result (λ answers. string_bytes answers.text ≡ output_of input.now) }
     ensures report { IfOk result (λ answers. Reports input.now answers.report) }

@@ -15,8 +15,8 @@ use polars_tables_rows::row_array::RowArray;
 use polars_tables_rows::written::write_rows;
 use std::alloc::Global;
 
-// Formats the rows of a kernel's result as text. The error is `Memory`, and the kernel's error can
-// be no other.
+// Formats the rows of `made`, the result of a kernel, as text. If `made` is an error, returns it as
+// `LineError::Memory`. The contract requires that `made` has no other error than `Memory`.
 pub(crate) fn write_made<A: RowArray>(
     alloc: Global,
     made: Result<A, ComputeError>,

@@ -14,7 +14,8 @@ use polars_arrays_flat::primitive::PrimitiveArray;
 use polars_compute_arithmetic::arithmetic::ArithmeticKernel;
 use std::alloc::Global;
 
-/// Applies a function to each number of an array. Null rows stay null. The error is `Memory`.
+/// Applies the function `change` to each number of an array, and returns the results, wrapped to
+/// the type. Null rows stay null. The error is `Memory`.
 pub fn change_rows<T: LineNumber>(
     alloc: Global,
     change: Change,

@@ -93,8 +93,9 @@ fn present_in_both(
     }
 }
 
-// Returns the validity of the results of a comparison. Missing comparisons have no null results;
-// others have null where a row of a side is null. `n` is the number of rows. The error is `Memory`.
+// Returns the validity of the results of a comparison of `n` pairs of rows. Missing comparisons
+// have no null results. The result of any other comparison is null if one of the two rows is null.
+// The error is `Memory`.
 fn validity_of(
     alloc: Global,
     comparison: ComparisonKind,
@@ -135,7 +136,8 @@ fn answered(
     Ok(answers)
 }
 
-/// Compares two arrays of equal length, row by row. The error is `Memory`.
+/// Compares two arrays of equal length, row by row, and returns the result for each pair of rows:
+/// true, false, or null as `ComparisonKind` describes. The error is `Memory`.
 pub fn compare_rows<A: KernelArray>(
     alloc: Global,
     comparison: ComparisonKind,
@@ -154,7 +156,8 @@ pub fn compare_rows<A: KernelArray>(
     answered(alloc, comparison, &left_mask, &right_mask, bits)
 }
 
-/// Compares each row of an array with a scalar. The error is `Memory`.
+/// Compares each row of an array with a scalar, and returns the result for each row: true, false,
+/// or null as `ComparisonKind` describes. The error is `Memory`.
 pub fn compare_scalar<A: KernelArray>(
     alloc: Global,
     comparison: ComparisonKind,

@@ -13,7 +13,8 @@ use polars_arrays_bits::error::ComputeError;
 use polars_arrays_flat::primitive::PrimitiveArray;
 use std::alloc::Global;
 
-/// Counts the bits of one kind in each row. Null rows stay null. The error is `Memory`.
+/// Counts the bits of each row that belong to the group `count`, and returns the counts. Null rows
+/// stay null. The error is `Memory`.
 pub fn count_bits<A: KernelArray>(
     alloc: Global,
     count: BitCount,

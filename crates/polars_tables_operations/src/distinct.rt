@@ -30,7 +30,8 @@ fn list_distinct<T: LineNumber>(
     write_made(alloc, state.finalize_unique(alloc))
 }
 
-/// Returns the distinct rows of a state, or their number, as text. The error is `Memory`.
+/// Returns the distinct rows of a state, or their number, as text. `asked` says which of them. The
+/// error is `Memory`.
 pub fn answer_distinct<T: LineNumber>(
     alloc: Global,
     asked: Distinct,

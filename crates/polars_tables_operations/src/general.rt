@@ -94,8 +94,8 @@ fn answer_comparison<A: KernelArray>(
     }
 }
 
-// Counts the bits of one kind in each row of a single list, and returns the counts as text. The
-// error is `Length` if there is not exactly one list, or `Memory`.
+// Counts the bits of each row of a single list that belong to the group `count`, and returns the
+// counts as text. The error is `Length` if there is not exactly one list, or `Memory`.
 #[tactic(auto, using(crate::proofs::Answered::answered))]
 fn answer_count<A: KernelArray>(
     alloc: Global,

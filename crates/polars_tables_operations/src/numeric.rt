@@ -99,8 +99,8 @@ fn scalar_of<T: LineNumber>(scalars: PrimitiveArray<T>) -> Result<T, LineError>
     lent_scalar(&scalars)
 }
 
-// Applies a function to each number of a single list, and returns the results as text. The error is
-// `Length` if there is not exactly one list, or `Memory`.
+// Applies the function `change` to each number of a single list, and returns the results as text.
+// The error is `Length` if there is not exactly one list, or `Memory`.
 #[tactic(auto, using(crate::proofs::Answered::answered))]
 fn answer_change<T: LineNumber>(
     alloc: Global,

@@ -60,7 +60,7 @@ pub enum Reduction {
     Greatest,
 }
 
-/// A function of one number, whose result is wrapped to the type.
+/// A function of one number. The result is wrapped to the type of the number.
 #[derive(Clone, Copy, Debug, PartialEq, Eq)]
 pub enum Change {
     /// The absolute value.
@@ -84,7 +84,7 @@ pub enum OrderedCalculation {
     LegacyDivide,
 }
 
-/// A calculation with two numbers, whose result is wrapped to the type.
+/// A calculation with two numbers of a type. The result is wrapped to the type.
 #[derive(Clone, Copy, Debug, PartialEq, Eq)]
 pub enum Calculation {
     /// The sum.
@@ -133,11 +133,11 @@ pub enum NumericOperation {
     CalculateFromScalar(OrderedCalculation),
     /// Adds the present numbers of a list, and wraps the sum to the type.
     Sum,
-    /// Answers a question about the distinct rows of a list. A list before it has the first and the
-    /// last number of a range, in which all numbers must lie.
+    /// Answers a question about the distinct rows of the second of two lists. The first list has
+    /// the first and the last number of a range, in which all numbers of the second must lie.
     DistinctInRange(Distinct),
-    /// Returns whether a list has every number of a range, and a null. A list before it has the
-    /// first and the last number of the range.
+    /// Returns whether the second of two lists has every number of a range, and a null. The first
+    /// list has the first and the last number of the range.
     HasAllOfRange,
 }
 
@@ -152,7 +152,8 @@ pub enum Operation {
     DistinctTruths(Distinct),
 }
 
-// Makes an entry of `OPERATIONS`: a comparison, and the kind of its right operand.
+// Makes an entry of `OPERATIONS` for a comparison. `$operand` is the variant of `Operand` for its
+// right operand.
 macro_rules! compares {
     ($name:expr, $comparison:ident, $operand:ident) => {
         (
@@ -192,7 +193,8 @@ macro_rules! numeric {
     };
 }
 
-// Makes an entry of `OPERATIONS`: a calculation, and the kind of its right operand.
+// Makes an entry of `OPERATIONS` for a calculation in which the order does not matter. `$operand`
+// is the variant of `Operand` for its right operand.
 macro_rules! calculates {
     ($name:expr, $calculation:ident, $operand:ident) => {
         numeric!(
@@ -202,8 +204,8 @@ macro_rules! calculates {
     };
 }
 
-// Makes an entry of `OPERATIONS`: a calculation in which the order matters, and the kind of its
-// right operand.
+// Makes an entry of `OPERATIONS` for a calculation in which the order matters. `$operand` is the
+// variant of `Operand` for its right operand.
 macro_rules! calculates_in_order {
     ($name:expr, $calculation:ident, $operand:ident) => {
         numeric!(
@@ -301,7 +303,8 @@ const OPERATIONS: [(&str, Operation); 57] = [
 ];
 
 impl Operation {
-    /// Returns the operation with this name, or `None` if there is no such operation.
+    /// Returns the operation that is called `name` in a line, or `None` if there is no such
+    /// operation.
     pub fn from_name(name: &str) -> Option<Operation>
         ensures { result ≡ operation_of name.now }
     {

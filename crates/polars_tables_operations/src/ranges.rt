@@ -14,8 +14,8 @@ use polars_tables_rows::fault::{LineError, or_memory};
 use polars_tables_rows::row_array::RowArray;
 use std::alloc::Global;
 
-// Returns the two ends of a range from a list of rows. The error is `Length` if the list does not
-// have two rows, and `Range` if one of the two is null.
+// Returns the two numbers in the list `ends`, which are the ends of a range. The error is `Length`
+// if the list does not have two rows, and `Range` if one of the two is null.
 fn ends_of<T: LineNumber>(ends: &PrimitiveArray<T>) -> Result<(T, T), LineError>
     ensures { Tells {Y = ℤ × ℤ}
         (λ pair. (T.value pair.0, T.value pair.1))

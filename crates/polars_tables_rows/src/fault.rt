@@ -51,8 +51,8 @@ impl<T: Drop> From<AllocFailed<T>> for LineError {
     }
 }
 
-/// Converts the result of a call that can only fail with `Memory`, as its contract says. Other
-/// errors can't occur, so `Unsupported` and `KeyOutOfRange` never become `LineError::Memory`.
+/// Converts an error of `answer` to `LineError::Memory`. The contract requires that `answer` has no
+/// other error than `ComputeError::Memory`.
 pub fn or_memory<X>(answer: Result<X, ComputeError>) -> Result<X, LineError>
     requires { IfErr answer IsMemory }
     ensures answered { IfOk result (λ x. answer ≡ Ok x) }

@@ -33,7 +33,7 @@ const ROW_TYPES: [(&str, RowType); 9] = [
 ];
 
 impl RowType {
-    /// Returns the type with this name, or `None` if there is no such type.
+    /// Returns the type that is called `name` in a line, or `None` if there is no such type.
     pub fn from_name(name: &str) -> Option<RowType>
         ensures { result ≡ row_type_of name.now }
     {

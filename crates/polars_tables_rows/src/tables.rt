@@ -22,7 +22,8 @@ pub(crate) fn is_same(left: &str, right: &str) -> bool
     left.len() == right.len() && are_equal(left, right)
 }
 
-/// Returns the value of the first entry of a table that has the name, or `None` if no entry has it.
+/// Returns the value of the first entry of `table` that has the name `name`, or `None` if there is
+/// no such entry.
 pub fn find<T: Copy>(table: &[(&str, T)], name: &str) -> Option<T>
     ensures { result ≡ find (map (λ line. (line.0.now, line.1)) table.now) name.now }
 {

@@ -66,8 +66,8 @@ impl SchemaPart for ColumnSchema {
     }
 }
 
-/// Returns the number of different byte strings, and the least and the greatest of them. The only
-/// error is `Memory`.
+/// Returns the number of different byte strings in `cells`, and the least and the greatest of them.
+/// The only error is `Memory`.
 fn string_values(alloc: Global, cells: &BinaryArray<i64>) -> Result<Values, ComputeError>
     requires { cells.now.validity ≡ None }
     ensures { MatchResult result
@@ -101,8 +101,10 @@ fn whole_values(alloc: Global, cells: &BinaryArray<i64>) -> Result<Values, Compu
     })
 }
 
-/// Returns the number of different cells, and the least and the greatest of them. All cells must be
-/// of this kind. The only error is `Memory`.
+/// Returns the number of different values in `cells`, and the least and the greatest of them.
+/// Integers and numbers are compared by value, all others as bytes. All cells must be of the kind
+/// `kind`. All fields are `None` if a number has an exponent of more than 30 digits. The only error
+/// is `Memory`.
 fn values_of(alloc: Global, cells: &BinaryArray<i64>, kind: Kind) -> Result<Values, ComputeError>
     requires plain { cells.now.validity ≡ None }
     requires all { AreOf kind (offset_strings (λ x. x) cells.now) }

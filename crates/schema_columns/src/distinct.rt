@@ -29,7 +29,7 @@ fn count_by_lookup(alloc: Global, numbers: &[i64]) -> Result<usize, ComputeError
 }
 
 /// Returns whether the range `least..=greatest` is small enough for `count_by_state`: it has at
-/// most 64 numbers for each row, plus 1024.
+/// most `64 * rows + 1024` numbers.
 fn is_dense(least: i64, greatest: i64, rows: usize) -> bool {
     let most = (rows as i128).saturating_mul(64).saturating_add(1024);
     i128::from(greatest) - i128::from(least) < most

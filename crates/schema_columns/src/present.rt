@@ -49,7 +49,8 @@ fn is_null(null: Option<&[u8]>, cell: &[u8]) -> bool
 }
 
 impl Gathered {
-    /// Adds a cell: as a null cell, as a missing cell, or as a value.
+    /// Counts `cell` as null if it equals `null`, or else as missing if it is empty. Appends any
+    /// other cell to the values.
     fn add(&mut self, null: Option<&[u8]>, cell: &[u8]) -> Result<(), AllocError>
         ensures { OnOk result
             ((all : List (List ℕ)) → Gathers (option_copied null.entry) all self.old

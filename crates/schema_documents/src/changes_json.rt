@@ -29,7 +29,7 @@ fn word_of(side: Side) -> &'static [u8]
     }
 }
 
-/// Appends the JSON line about a path that only the file on this side has.
+/// Appends the JSON line that says that only the file on the side `side` has values at `path`.
 #[tactic(auto, unfolding(crate::specs::Changes::alone_object))]
 fn push_alone(out: &mut Vec<u8>, side: Side, path: &[u8]) -> Result<(), AllocError>
     ensures { OnOk result (out.new.items ≡ out.old.items ++ alone_object side path.now) }
@@ -42,7 +42,8 @@ fn push_alone(out: &mut Vec<u8>, side: Side, path: &[u8]) -> Result<(), AllocErr
     Ok(())
 }
 
-/// Appends the JSON line about a path whose values have different kinds in the two files.
+/// Appends the JSON line about a path that has values of different kinds in the two files. `left`
+/// and `right` are the schemas of the path.
 #[tactic(auto, unfolding(crate::specs::Changes::kinds_object))]
 fn push_changed(out: &mut Vec<u8>, left: &PathSchema, right: &PathSchema) -> Result<(), AllocError>
     ensures { OnOk result (out.new.items ≡ out.old.items ++ kinds_object left.now right.now) }
@@ -83,8 +84,8 @@ impl ChangeForm<PathSchema> for PathObjects {
     }
 }
 
-/// Appends a JSON line for each path that differs, and the JSON object with the counts without its
-/// closing brace, so that members can follow.
+/// Appends a JSON line for each path that differs, and then a JSON object with the counts, but
+/// without the closing brace, so that the caller can append more members.
 fn push_path_objects(
     out: &mut Vec<u8>,
     left: &[PathSchema],
@@ -98,8 +99,8 @@ fn push_path_objects(
 }
 
 /// Appends the differences between the paths of two files of documents as JSON lines: a line for
-/// each path that differs, and a line with the counts. If lines may be skipped, the counts include
-/// the number of skipped lines of each file.
+/// each path that differs, and a line with the counts. If `left.skip_bad` is set, the last line
+/// also has the number of skipped lines of each file.
 pub fn push_document_objects(
     out: &mut Vec<u8>,
     left: &DocumentSchema,

@@ -23,7 +23,7 @@ struct PathLines<'a> {
     files: Files<'a>,
 }
 
-/// Appends the line about a path that only one file has. `file` is the name of this file.
+/// Appends the line that says that only the file named `file` has values at `path`.
 #[tactic(auto, unfolding(crate::specs::Changes::alone_line))]
 fn push_alone(out: &mut Vec<u8>, file: &[u8], path: &[u8]) -> Result<(), AllocError>
     ensures { OnOk result (out.new.items ≡ out.old.items ++ alone_line file.now path.now) }
@@ -36,7 +36,8 @@ fn push_alone(out: &mut Vec<u8>, file: &[u8], path: &[u8]) -> Result<(), AllocEr
     Ok(())
 }
 
-/// Appends the line about a path whose values have different kinds in the two files.
+/// Appends the line about a path that has values of different kinds in the two files. `left` and
+/// `right` are the schemas of the path.
 #[tactic(auto, unfolding(crate::specs::Changes::kinds_line))]
 fn push_changed(out: &mut Vec<u8>, left: &PathSchema, right: &PathSchema) -> Result<(), AllocError>
     ensures { OnOk result (out.new.items ≡ out.old.items ++ kinds_line left.now right.now) }
@@ -78,7 +79,8 @@ impl ChangeForm<PathSchema> for PathLines<'_> {
     }
 }
 
-/// Appends a line for each path that differs, and a line with the counts.
+/// Appends a line for each path that only one file has or that has values of different kinds, and a
+/// line with the counts. `files` has the names of the files.
 fn push_path_lines(
     out: &mut Vec<u8>,
     files: Files<'_>,
@@ -94,7 +96,8 @@ fn push_path_lines(
 }
 
 /// Appends the differences between the paths of two files of documents as text: a line for each
-/// path that differs, a line with the counts, and a line for each file with skipped lines.
+/// path that differs, a line with the counts, and a line for each file with skipped lines. `files`
+/// has the names of the files.
 pub fn push_document_lines(
     out: &mut Vec<u8>,
     files: Files<'_>,

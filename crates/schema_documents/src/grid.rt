@@ -52,7 +52,8 @@ fn push_kind_names(cells: &mut Strings) -> Result<(), AllocError>
     Ok(())
 }
 
-/// Appends the headings of the columns about numbers.
+/// Appends the headings of the number of numbers, of the number of different numbers, and of the
+/// least and the greatest number.
 fn push_number_names(cells: &mut Strings) -> Result<(), AllocError>
     ensures { OnOk result
         ((all : List (List ℕ)) → AreStrings cells.old all
@@ -74,7 +75,7 @@ fn push_header(cells: &mut Strings) -> Result<(), AllocError>
     Ok(())
 }
 
-/// Appends `n` as decimal text. `room` is memory that is overwritten.
+/// Appends a cell with `n` as decimal text. `room` is memory that is overwritten.
 fn push_number(cells: &mut Strings, room: &mut Vec<u8>, n: usize) -> Result<(), AllocError>
     ensures { OnOk result
         ((all : List (List ℕ)) → AreStrings cells.old all
@@ -115,8 +116,8 @@ fn push_kinds(cells: &mut Strings, room: &mut Vec<u8>, path: &PathSchema) -> Res
     Ok(())
 }
 
-/// Appends the number of numbers, and the number of different numbers. `room` is memory that is
-/// overwritten.
+/// Appends the number of numbers, and the number of different numbers, or a hyphen if the latter is
+/// `None`. `room` is memory that is overwritten.
 fn push_numbers(
     cells: &mut Strings,
     room: &mut Vec<u8>,
@@ -133,7 +134,8 @@ fn push_numbers(
     Ok(())
 }
 
-/// Appends the least and the greatest number. `room` is memory that is overwritten.
+/// Appends the least and the greatest number, with a hyphen for `None`. `room` is memory that is
+/// overwritten.
 fn push_ends(cells: &mut Strings, room: &mut Vec<u8>, path: &PathSchema) -> Result<(), AllocError>
     ensures { OnOk result
         ((all : List (List ℕ)) → AreStrings cells.old all
@@ -148,7 +150,8 @@ fn push_ends(cells: &mut Strings, room: &mut Vec<u8>, path: &PathSchema) -> Resu
     Ok(())
 }
 
-/// Appends the first cells of a row: those of `push_head` and `push_kinds`.
+/// Appends the first cells of a row: those of `push_head` and `push_kinds`. `room` is memory that
+/// is overwritten.
 fn push_counts(cells: &mut Strings, room: &mut Vec<u8>, path: &PathSchema) -> Result<(), AllocError>
     ensures { OnOk result
         ((all : List (List ℕ)) → AreStrings cells.old all
@@ -159,7 +162,8 @@ fn push_counts(cells: &mut Strings, room: &mut Vec<u8>, path: &PathSchema) -> Re
     Ok(())
 }
 
-/// Appends the last cells of a row: those of `push_numbers` and `push_ends`.
+/// Appends the last cells of a row: those of `push_numbers` and `push_ends`. `room` is memory that
+/// is overwritten.
 fn push_values(cells: &mut Strings, room: &mut Vec<u8>, path: &PathSchema) -> Result<(), AllocError>
     ensures { OnOk result
         ((all : List (List ℕ)) → AreStrings cells.old all
@@ -170,7 +174,7 @@ fn push_values(cells: &mut Strings, room: &mut Vec<u8>, path: &PathSchema) -> Re
     Ok(())
 }
 
-/// Appends the row of a path.
+/// Appends the eleven cells of the row for a path. `room` is memory that is overwritten.
 #[tactic(auto, unfolding(crate::specs::Grid::row_of))]
 fn push_row(cells: &mut Strings, room: &mut Vec<u8>, path: &PathSchema) -> Result<(), AllocError>
     ensures { OnOk result
@@ -182,10 +186,11 @@ fn push_row(cells: &mut Strings, room: &mut Vec<u8>, path: &PathSchema) -> Resul
     Ok(())
 }
 
-/// The number of columns.
+/// The number of cells in a row.
 const WIDTH: usize = 11;
 
-/// Returns a table of the schemas of `paths`, below a row of headings. The only error is `Memory`.
+/// Returns a table with a row of headings, and below it a row for each schema in `paths`. The only
+/// error is `Memory`.
 pub(crate) fn grid_of(alloc: Global, paths: &[PathSchema]) -> Result<Table, ComputeError>
     ensures width { MatchResult result (λ grid. grid.width ≡ 11) IsMemory }
     ensures rows { IfOk result (λ grid. grid.rows ≡ header ∷ map row_of paths.now) }

@@ -12,7 +12,8 @@ use schema_paths::read::DocumentSchema;
 use schema_report::json_lines::{push_count, push_number, push_value};
 use std::alloc::AllocError;
 
-/// Appends the beginning of an object, with the path and the number of documents.
+/// Appends the beginning of the JSON object of a path, with the path's text and the number of
+/// documents.
 #[tactic(auto, unfolding(crate::specs::JsonLines::name_members))]
 fn push_name(out: &mut Vec<u8>, path: &PathSchema) -> Result<(), AllocError>
     ensures { OnOk result (out.new.items ≡ out.old.items ++ name_members path.now) }
@@ -23,7 +24,8 @@ fn push_name(out: &mut Vec<u8>, path: &PathSchema) -> Result<(), AllocError>
     Ok(())
 }
 
-/// Appends the member with the number of skipped lines, if lines may be skipped.
+/// Appends the member with `count`, the number of skipped lines. Appends nothing if `skip_bad` is
+/// not set.
 fn push_skipped(out: &mut Vec<u8>, skip_bad: bool, count: usize) -> Result<(), AllocError>
     ensures { OnOk result (out.new.items ≡ out.old.items ++ skipped_member skip_bad count) }
 {
@@ -44,8 +46,9 @@ fn push_holes(out: &mut Vec<u8>, path: &PathSchema) -> Result<(), AllocError>
     Ok(())
 }
 
-/// Appends the first members of an object: those of `push_name`, `push_skipped` and `push_holes`.
-/// `count` is the number of skipped lines.
+/// Appends the first members of the object of a path: those of `push_name`, `push_skipped` and
+/// `push_holes`. `count` is the number of skipped lines, which is left out if `skip_bad` is not
+/// set.
 fn push_head(
     out: &mut Vec<u8>,
     skip_bad: bool,
@@ -82,7 +85,7 @@ fn push_numbers(out: &mut Vec<u8>, path: &PathSchema) -> Result<(), AllocError>
     Ok(())
 }
 
-/// Appends the members with the least and the greatest number, and the end of the object and of the
+/// Appends the members with the least and the greatest number, then closes the object and ends the
 /// line.
 #[tactic(auto, unfolding(crate::specs::JsonLines::end_members))]
 fn push_ends(out: &mut Vec<u8>, path: &PathSchema) -> Result<(), AllocError>
@@ -94,7 +97,8 @@ fn push_ends(out: &mut Vec<u8>, path: &PathSchema) -> Result<(), AllocError>
     Ok(())
 }
 
-/// Appends the JSON line of a path. `count` is the number of skipped lines.
+/// Appends the JSON line of a path. `count` is the number of skipped lines, which is left out if
+/// `skip_bad` is not set.
 fn push_path(
     out: &mut Vec<u8>,
     skip_bad: bool,
@@ -110,7 +114,8 @@ fn push_path(
     Ok(())
 }
 
-/// Appends a JSON line for each path. `count` is the number of skipped lines.
+/// Appends a JSON line for each path. `count` is the number of skipped lines, which is left out if
+/// `skip_bad` is not set.
 fn push_paths(
     out: &mut Vec<u8>,
     skip_bad: bool,

@@ -6,9 +6,9 @@ ghost use Rattle.schema_documents.specs.Changes.{AreJoined, joined, kind_words, 
 use schema_paths::paths::PathSchema;
 use std::alloc::AllocError;
 
-/// Appends the name of a kind, if `count` is not 0. The text `between` comes before it if `some` is
-/// true. `count` is the number of values of the kind, and `some` says that a name was appended
-/// before. Returns whether a name has been appended by now.
+/// Appends `word`, the name of a kind, unless `count`, the number of values of this kind, is 0. If
+/// `some` is true, a name was appended before, and the text `between` is appended before `word`.
+/// Returns whether any name has been appended by now.
 fn push_kind(
     out: &mut Vec<u8>,
     between: &[u8],

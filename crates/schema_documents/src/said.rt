@@ -12,8 +12,8 @@ use schema_run::said::Form;
 use std::alloc::Global;
 use std::io::Read;
 
-/// Appends the schema of documents in this form. `file` is the name of their file. The only error
-/// is `Memory`.
+/// Appends the schema of documents in the form `form`. `file` is the name of the file with the
+/// documents, which only `Form::Text` shows. The only error is `Memory`.
 fn push_form(
     alloc: Global,
     out: &mut Vec<u8>,
@@ -36,8 +36,9 @@ fn push_form(
     }
 }
 
-/// Reads an input with a document on each line, and appends the schema of the documents. `file` is
-/// the name of the input. Fails with the errors of `read_document_schema` of `schema_paths`.
+/// Reads an input with a document on each line, and appends the schema of the documents in the form
+/// `form`. `file` is the name of the input. If `skip_bad` is set, lines that are not documents are
+/// skipped. Fails with the errors of `read_document_schema` of `schema_paths`.
 pub fn push_schema_of<R: Read + Drop>(
     alloc: Global,
     out: &mut Vec<u8>,

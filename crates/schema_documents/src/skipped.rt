@@ -9,7 +9,7 @@ use diff_words::words::push_word;
 use schema_report::json_lines::push_number;
 use std::alloc::AllocError;
 
-/// Returns the text after the number of skipped lines, in the singular or the plural.
+/// Returns ` line of ` if `count` is 1, and else ` lines of `.
 fn lines_word(count: usize) -> &'static [u8]
     ensures { result.now ≡ lines_word count }
 {
@@ -20,7 +20,7 @@ fn lines_word(count: usize) -> &'static [u8]
     }
 }
 
-/// Returns the text before the number of the first skipped line, for `count` skipped lines.
+/// Returns ` (line ` if `count` is 1, and else ` (the first is line `.
 fn first_word(count: usize) -> &'static [u8]
     ensures { result.now ≡ first_word count }
 {
@@ -31,8 +31,8 @@ fn first_word(count: usize) -> &'static [u8]
     }
 }
 
-/// Appends a line with the number of skipped lines of a file, and with the number of the first of
-/// them. `numbers` are the numbers of the skipped lines. Appends nothing if no lines were skipped.
+/// Appends a line that says how many lines of a file were skipped, and which was the first.
+/// `numbers` has the line numbers of the skipped lines. Appends nothing if `numbers` is empty.
 #[tactic(auto, unfolding(document_words::specs::Skipped::skipped_text))]
 pub(crate) fn push_skipped(
     out: &mut Vec<u8>,
@@ -54,8 +54,8 @@ pub(crate) fn push_skipped(
     Ok(())
 }
 
-/// Appends the members `left_skipped` and `right_skipped`, each after a comma: the numbers of
-/// skipped lines. Appends nothing if lines may not be skipped.
+/// Appends the members `left_skipped` and `right_skipped`, each after a comma. `left` and `right`
+/// are the numbers of skipped lines of the two files. Appends nothing if `skip_bad` is not set.
 #[tactic(auto, unfolding(document_words::specs::Skipped::skipped_members))]
 pub(crate) fn push_skipped_members(
     out: &mut Vec<u8>,

@@ -14,7 +14,7 @@ use schema_paths::read::DocumentSchema;
 use schema_report::aligned::push_aligned;
 use std::alloc::{AllocError, Global};
 
-/// Returns the text after the number of documents, in the singular or the plural.
+/// Returns ` document, ` if `count` is 1, and else ` documents, `.
 fn documents_word(count: usize) -> &'static [u8]
     ensures { result.now ≡ documents_word count }
 {
@@ -25,7 +25,7 @@ fn documents_word(count: usize) -> &'static [u8]
     }
 }
 
-/// Returns the text after the number of paths, in the singular or the plural.
+/// Returns ` path` if `count` is 1, and else ` paths`. A line feed follows.
 fn paths_word(count: usize) -> &'static [u8]
     ensures { result.now ≡ paths_word count }
 {
@@ -51,9 +51,9 @@ fn push_head(
     Ok(())
 }
 
-/// Appends the schema of documents as text: a first line with counts, a line for each path, and a
-/// line about skipped lines if there are any. `file` is the name of their file. The only error is
-/// `Memory`.
+/// Appends the schema of documents as text: a line with counts, a line of headings, a line for each
+/// path, and a line about skipped lines if there are any. `file` is the name of the file with the
+/// documents. The only error is `Memory`.
 pub fn push_schema(
     alloc: Global,
     out: &mut Vec<u8>,

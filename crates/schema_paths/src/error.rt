@@ -12,7 +12,8 @@ pub enum SchemaError {
     /// An allocation failed.
     #[error("out of memory")]
     Memory,
-    /// The input can't be read, or has a line that is not a document.
+    /// The input can't be read, memory runs out while it is read, or a line is not a document and
+    /// lines may not be skipped. `cause` says which of these.
     #[error("{cause}")]
     Read { cause: ReadError },
     /// The input has lines, but all of them were skipped because they are not documents.

@@ -7,7 +7,8 @@ use json::Value;
 use json_groups::tally::Tally;
 use std::alloc::{AllocError, Global};
 
-/// The number of values of each kind. Of numbers, the texts are stored.
+/// The values at a path, by kind: the text of each number, and for each other kind the number of
+/// values.
 #[derive(Drop)]
 pub struct Kinds {
     pub(crate) nulls: usize,

@@ -18,7 +18,7 @@ use std::alloc::Global;
 /// The schema of a path: a summary of the values at this path in all documents.
 #[derive(Drop)]
 pub struct PathSchema {
-    /// The path as text.
+    /// The path as text, in which `[]` is any item of an array.
     pub path: Vec<u8>,
     /// The number of all documents.
     pub documents: usize,
@@ -36,14 +36,14 @@ pub struct PathSchema {
     pub arrays: usize,
     /// The number of values that are numbers.
     pub numbers: usize,
-    /// The number of different numbers, compared as exact decimals. `None` only if an exponent has
-    /// more than 30 digits.
+    /// The number of different numbers, compared as exact decimals. `None` if a number has an
+    /// exponent of more than 30 digits.
     pub distinct: Option<usize>,
-    /// The least number, in the spelling that comes first in the file. `None` if `distinct` is
-    /// `None` or there is not a number.
+    /// The least number, in the spelling that comes first in the file. `None` if there are no
+    /// numbers, or if `distinct` is `None`.
     pub least: Option<Vec<u8>>,
-    /// The greatest number, in the spelling that comes first in the file. `None` if `distinct` is
-    /// `None` or there is not a number.
+    /// The greatest number, in the spelling that comes first in the file. `None` if there are no
+    /// numbers, or if `distinct` is `None`.
     pub greatest: Option<Vec<u8>>,
 }
 

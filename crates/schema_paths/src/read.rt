@@ -34,8 +34,8 @@ pub struct DocumentSchema {
     pub paths: Vec<PathSchema>,
 }
 
-/// Adds the values of the document of a row to the groups. `scratch` is memory that can be reused
-/// for each document.
+/// Parses the document of row `row`, and adds its members and items at any depth to `groups`.
+/// `scratch` is memory that can be reused for each document.
 fn add_row(
     alloc: Global,
     groups: &mut Groups<Kinds>,
@@ -96,9 +96,9 @@ fn none_kept(read: &Documents) -> bool
     read.lines.is_empty() && !read.skipped.is_empty()
 }
 
-/// Reads the documents of an input. If `skip_bad` is set, lines that are not documents are skipped,
-/// and else they are errors. Fails with `AllSkipped` if there are lines, but all of them were
-/// skipped.
+/// Reads the documents of an input. If `skip_bad` is set, lines that are not documents are skipped.
+/// Fails with `Read` if `read_documents` fails, and with `AllSkipped` if there are lines, but all
+/// of them were skipped.
 fn documents_in<R: Read + Drop>(
     alloc: Global,
     input: R,
@@ -133,8 +133,9 @@ fn documents_in<R: Read + Drop>(
 /// Reads an input with a document on each line, and returns the schema of the documents. If
 /// `skip_bad` is set, lines that are not documents are skipped.
 ///
-/// Fails with `Read` if the input can't be read, or if a line is not a document and `skip_bad` is
-/// not set. Fails with `AllSkipped` if there are lines, but all of them were skipped.
+/// Fails with `Read` if the input can't be read, if memory runs out while it is read, or if a line
+/// is not a document and `skip_bad` is not set. Fails with `AllSkipped` if there are lines, but all
+/// of them were skipped. Fails with `Memory` if a later allocation fails.
 pub fn read_document_schema<R: Read + Drop>(
     alloc: Global,
     input: R,

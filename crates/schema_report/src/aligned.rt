@@ -15,14 +15,14 @@ fn begins(byte: u8) -> bool
     byte < 128 || 191 < byte
 }
 
-/// Returns the number of characters in a text, counted by their first bytes.
+/// Returns the number of characters in a text in UTF-8: the number of bytes that begin one.
 fn glyphs(text: &[u8]) -> usize
     ensures { result ≡ glyphs text.now }
 {
     text.iter().filter(|byte| begins(**byte)).count()
 }
 
-/// Returns the number of characters in the longest cell of a column.
+/// Returns the number of characters in the longest cell of a column, or 0 if there are no rows.
 fn widest(table: &Table, column: usize) -> usize
     requires { column < table.now.width }
     ensures { result ≡ widest column table.now.rows (length table.now.rows) }
@@ -48,8 +48,8 @@ fn widths_of(alloc: Global, table: &Table) -> Result<Vec<usize>, AllocError>
     Ok(widths)
 }
 
-/// Appends blanks to a text of `len` characters, up to `width` characters. Appends nothing if it is
-/// as long or longer.
+/// Appends `width - len` blanks, which fill a text of `len` characters up to `width` characters.
+/// Appends nothing if `len` is greater than `width`.
 fn push_blanks(out: &mut Vec<u8>, len: usize, width: usize) -> Result<(), AllocError>
     ensures { OnOk result (out.new.items ≡ out.old.items ++ replicate (width - len) 32) }
 {
@@ -59,8 +59,8 @@ fn push_blanks(out: &mut Vec<u8>, len: usize, width: usize) -> Result<(), AllocE
     Ok(())
 }
 
-/// Appends the cell in row `i` and this column. Blanks up to the width of the column and two more
-/// follow, except after the last column.
+/// Appends the cell in row `i` and column `column`. Except in the last column, appends blanks that
+/// fill the cell up to `widths[column]` characters, and two more blanks.
 fn push_cell(
     out: &mut Vec<u8>,
     table: &Table,
@@ -87,7 +87,8 @@ fn push_cell(
     Ok(())
 }
 
-/// Appends row `i` as a line.
+/// Appends row `i` as a line. `widths` has the number of characters in the longest cell of each
+/// column.
 fn push_line(out: &mut Vec<u8>, table: &Table, widths: &[usize], i: usize) -> Result<(), AllocError>
     requires row { i < length table.now.rows }
     requires many { length widths.now ≡ table.now.width }

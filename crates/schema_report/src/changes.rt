@@ -25,7 +25,7 @@ pub struct SchemaCounts {
     pub same: usize,
 }
 
-/// A format for the differences between parts.
+/// A format in which differences between two schemas are written.
 pub trait ChangeForm<S: SchemaPart> {
     // The text about a part that only one side has.
     ghost alone: { Self → Side → S → List ℕ };
@@ -33,7 +33,7 @@ pub trait ChangeForm<S: SchemaPart> {
     // The text about a left and a right part with different kinds.
     ghost changed: { Self → S → S → List ℕ };
 
-    /// Appends the text about a part that only one side has.
+    /// Appends the text about `part`, which only the schema on the side `side` has.
     fn push_alone(&self, out: &mut Vec<u8>, side: Side, part: &S) -> Result<(), AllocError>
         ensures { OnOk result (out.new.items ≡ out.old.items ++ alone self.now side part.now) };
 
@@ -62,8 +62,8 @@ fn is_alone<S: SchemaPart>(others: &[S], part: &S) -> bool
     named(others, part.name()).is_none()
 }
 
-/// Returns whether the first part among `others` with the name of `part` has different kinds.
-/// Returns `false` if there is no such part.
+/// Returns whether the first part among `others` with the name of `part` has other kinds than
+/// `part`. Returns `false` if there is no such part.
 fn is_changed<S: SchemaPart>(others: &[S], part: &S) -> bool
     ensures { result ≡ is_changed S.name_of S.same_kinds others.now part.now }
 {
@@ -116,8 +116,8 @@ pub fn counts_of<S: SchemaPart>(left: &[S], right: &[S]) -> SchemaCounts
     }
 }
 
-/// Appends the text about a left part, if the right schema has no part of its name, or has one with
-/// different kinds.
+/// Appends the text about `part`, a part of the left schema, if no part of `right` has the same
+/// name, or if the first such part has different kinds.
 fn push_change<S: SchemaPart, F: ChangeForm<S>>(
     out: &mut Vec<u8>,
     form: &F,
@@ -140,7 +140,8 @@ fn push_change<S: SchemaPart, F: ChangeForm<S>>(
     }
 }
 
-/// Appends the text about a right part, if the left schema has no part of its name.
+/// Appends the text about `part`, a part of the right schema, if no part of `left` has the same
+/// name.
 fn push_lone<S: SchemaPart, F: ChangeForm<S>>(
     out: &mut Vec<u8>,
     form: &F,
@@ -157,8 +158,8 @@ fn push_lone<S: SchemaPart, F: ChangeForm<S>>(
     Ok(())
 }
 
-/// Appends the texts about all differences between two schemas: first those of the left parts in
-/// order, then those of the parts that only the right schema has.
+/// Appends the texts about all differences between two schemas: first about parts of the left
+/// schema, in order, and then about parts that only the right schema has.
 pub fn push_changes<S: SchemaPart, F: ChangeForm<S>>(
     out: &mut Vec<u8>,
     form: &F,

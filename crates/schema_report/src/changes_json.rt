@@ -18,7 +18,8 @@ use std::alloc::AllocError;
 #[derive(Clone, Copy)]
 struct ColumnObjects;
 
-/// Appends the JSON line about a column whose kinds differ.
+/// Appends the JSON line about the column `name`, which has the kind `left` in the left table, and
+/// the kind `right` in the right table.
 #[tactic(auto, unfolding(crate::specs::ColumnChanges::kind_object))]
 fn push_kinds(out: &mut Vec<u8>, name: &[u8], left: Kind, right: Kind) -> Result<(), AllocError>
     ensures { OnOk result (out.new.items ≡ out.old.items ++ kind_object name.now left right) }
@@ -60,7 +61,8 @@ impl ChangeForm<ColumnSchema> for ColumnObjects {
     }
 }
 
-/// Appends the JSON object with the counts without its closing brace, so that members can follow.
+/// Appends a JSON object with the four counts, but without the closing brace, so that the caller
+/// can append more members.
 #[tactic(auto, unfolding(crate::specs::ColumnChanges::counts_members))]
 pub fn push_counts_members(out: &mut Vec<u8>, counts: SchemaCounts) -> Result<(), AllocError>
     ensures { OnOk result (out.new.items ≡ out.old.items ++ counts_members counts) }
@@ -72,8 +74,8 @@ pub fn push_counts_members(out: &mut Vec<u8>, counts: SchemaCounts) -> Result<()
     Ok(())
 }
 
-/// Appends the differences between the columns of two files as JSON lines: a line for each column
-/// that differs, and a line with the counts.
+/// Appends the differences between the columns of two tables as JSON lines: a line for each column
+/// that only one table has or that has different kinds, and a line with the counts.
 pub fn push_column_objects(
     out: &mut Vec<u8>,
     left: &[ColumnSchema],

@@ -21,7 +21,7 @@ struct ColumnLines<'a> {
     files: Files<'a>,
 }
 
-/// Appends the line about a column that only one file has. `file` is the name of this file.
+/// Appends the line that says that only the file named `file` has the column `name`.
 #[tactic(auto, unfolding(crate::specs::ColumnChanges::alone_line))]
 fn push_alone(out: &mut Vec<u8>, file: &[u8], name: &[u8]) -> Result<(), AllocError>
     ensures { OnOk result (out.new.items ≡ out.old.items ++ alone_line file.now name.now) }
@@ -34,7 +34,8 @@ fn push_alone(out: &mut Vec<u8>, file: &[u8], name: &[u8]) -> Result<(), AllocEr
     Ok(())
 }
 
-/// Appends the line about a column whose kinds differ.
+/// Appends the line about the column `name`, which has the kind `left` in the left file, and the
+/// kind `right` in the right file.
 #[tactic(auto, unfolding(crate::specs::ColumnChanges::kind_line))]
 fn push_kinds(out: &mut Vec<u8>, name: &[u8], left: Kind, right: Kind) -> Result<(), AllocError>
     ensures { OnOk result (out.new.items ≡ out.old.items ++ kind_line name.now left right) }
@@ -75,7 +76,7 @@ impl ChangeForm<ColumnSchema> for ColumnLines<'_> {
     }
 }
 
-/// Appends the line with the counts.
+/// Appends a line with the four counts, such as `1 changed, 0 removed, 2 added, 5 the same.`
 #[tactic(auto, unfolding(crate::specs::ColumnChanges::counts_line))]
 pub fn push_counts(out: &mut Vec<u8>, counts: SchemaCounts) -> Result<(), AllocError>
     ensures { OnOk result (out.new.items ≡ out.old.items ++ counts_line counts) }
@@ -92,7 +93,8 @@ pub fn push_counts(out: &mut Vec<u8>, counts: SchemaCounts) -> Result<(), AllocE
 }
 
 /// Appends the differences between the columns of two files as text: a line for each column that
-/// differs, and a line with the counts.
+/// only one file has or that has different kinds, and a line with the counts. `files` has the names
+/// of the files.
 pub fn push_column_lines(
     out: &mut Vec<u8>,
     files: Files<'_>,

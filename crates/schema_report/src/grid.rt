@@ -61,7 +61,7 @@ fn push_header(cells: &mut Strings) -> Result<(), AllocError>
     Ok(())
 }
 
-/// Appends the name and the kind of a column. `room` is memory that is overwritten.
+/// Appends two cells: the name and the kind of a column. `room` is memory that is overwritten.
 fn push_head(
     cells: &mut Strings,
     room: &mut Vec<u8>,
@@ -78,7 +78,7 @@ fn push_head(
     Ok(())
 }
 
-/// Appends a count, or a hyphen for `None`. `room` is memory that is overwritten.
+/// Appends a cell with a count, or with a hyphen for `None`. `room` is memory that is overwritten.
 fn push_one_count(
     cells: &mut Strings,
     room: &mut Vec<u8>,
@@ -94,8 +94,8 @@ fn push_one_count(
     Ok(())
 }
 
-/// Appends the numbers of null cells, missing cells and different values. `room` is memory that is
-/// overwritten.
+/// Appends three cells: the numbers of null cells, of missing cells and of different values of a
+/// column. `room` is memory that is overwritten.
 fn push_counts(
     cells: &mut Strings,
     room: &mut Vec<u8>,
@@ -111,7 +111,8 @@ fn push_counts(
     Ok(())
 }
 
-/// Appends the least and the greatest value. `room` is memory that is overwritten.
+/// Appends two cells: the least and the greatest value of a column. `room` is memory that is
+/// overwritten.
 fn push_ends(
     cells: &mut Strings,
     room: &mut Vec<u8>,
@@ -130,7 +131,7 @@ fn push_ends(
     Ok(())
 }
 
-/// Appends the row of a column. `room` is memory that is overwritten.
+/// Appends the seven cells of the row for a column. `room` is memory that is overwritten.
 fn push_row(
     cells: &mut Strings,
     room: &mut Vec<u8>,
@@ -146,11 +147,11 @@ fn push_row(
     Ok(())
 }
 
-/// The number of texts in a row.
+/// The number of cells in a row.
 const WIDTH: usize = 7;
 
-/// Returns a table of the schemas of `columns`, below a row of headings. The only error is
-/// `Memory`.
+/// Returns a table with a row of headings, and below it a row for each schema in `columns`. The
+/// only error is `Memory`.
 pub(crate) fn grid_of(alloc: Global, columns: &[ColumnSchema]) -> Result<Table, ComputeError>
     ensures width { MatchResult result (λ grid. grid.width ≡ 7) IsMemory }
     ensures rows { IfOk result (λ grid. grid.rows ≡ header ∷ map row_of columns.now) }

@@ -58,7 +58,8 @@ pub fn push_value(
     }
 }
 
-/// Appends the beginning of an object, with the name and the kind of a column.
+/// Appends the beginning of the JSON object of a column, with its name and its kind. The quote that
+/// closes the kind is left to `push_counts`.
 #[tactic(auto, unfolding(crate::specs::JsonLines::head_members))]
 fn push_head(out: &mut Vec<u8>, column: &ColumnSchema) -> Result<(), AllocError>
     ensures { OnOk result (out.new.items ≡ out.old.items ++ head_members column.now) }
@@ -70,7 +71,8 @@ fn push_head(out: &mut Vec<u8>, column: &ColumnSchema) -> Result<(), AllocError>
     Ok(())
 }
 
-/// Appends the members for the counts of a column: rows, nulls, missing rows, distinct values.
+/// Appends the quote that closes the kind, and then the members with the counts of a column: rows,
+/// null cells, missing cells, different values.
 #[tactic(auto, unfolding(crate::specs::JsonLines::count_members))]
 fn push_counts(out: &mut Vec<u8>, column: &ColumnSchema) -> Result<(), AllocError>
     ensures { OnOk result (out.new.items ≡ out.old.items ++ count_members column.now) }

@@ -13,14 +13,14 @@ use polars_arrays_bits::error::ComputeError;
 use schema_columns::column::ColumnSchema;
 use std::alloc::{AllocError, Global};
 
-/// Returns the text after the number of rows, in the singular or the plural.
+/// Returns ` row, ` if `count` is 1, and else ` rows, `.
 fn rows_word(count: usize) -> &'static [u8]
     ensures { result.now ≡ rows_word count }
 {
     if count == 1 { b" row, " } else { b" rows, " }
 }
 
-/// Returns the text after the number of columns, in the singular or the plural.
+/// Returns ` column` if `count` is 1, and else ` columns`. A line feed follows.
 fn columns_word(count: usize) -> &'static [u8]
     ensures { result.now ≡ columns_word count }
 {
@@ -45,8 +45,9 @@ fn push_head(out: &mut Vec<u8>, file: &[u8], rows: usize, columns: usize) -> Res
     Ok(())
 }
 
-/// Appends the schema of a table as text: a first line with counts, and a line for each column.
-/// `file` is the name of its file, and `rows` the number of its rows. The only error is `Memory`.
+/// Appends the schema of a table as text: a line with counts, a line of headings, and a line for
+/// each column. `file` is the name of the table's file, and `rows` the number of the table's rows.
+/// The only error is `Memory`.
 pub fn push_schema(
     alloc: Global,
     out: &mut Vec<u8>,

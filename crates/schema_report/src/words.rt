@@ -59,11 +59,12 @@ fn front_len(bytes: &[u8], most: usize) -> usize
     len
 }
 
-/// The most bytes that are shown of a text value.
+/// The greatest number of bytes that are shown of a text value.
 const MOST: usize = 40;
 
-/// Appends a text value between quotes. Of a value of more than 40 bytes, appends the first 40 or
-/// fewer bytes between quotes, and `..`.
+/// Appends a text value between quotes. If the value has more than 40 bytes, only the longest
+/// prefix of at most 40 bytes that does not end within a character is between the quotes, and `..`
+/// follows.
 #[tactic(auto, unfolding(diff_words::specs::Cells::cell_text))]
 fn push_string(out: &mut Vec<u8>, bytes: &[u8]) -> Result<(), AllocError>
     ensures { OnOk result (out.new.items ≡ out.old.items ++ shown_string bytes.now) }
@@ -77,8 +78,8 @@ fn push_string(out: &mut Vec<u8>, bytes: &[u8]) -> Result<(), AllocError>
     Ok(())
 }
 
-/// Appends a value of a column of this kind, or a hyphen for `None`. Text values are between
-/// quotes.
+/// Appends a value of a column of kind `kind`, or a hyphen for `None`. A value of kind `Text` is
+/// between quotes, and at most 40 bytes of it are shown (`push_string`).
 pub fn push_value(out: &mut Vec<u8>, kind: Kind, value: &Option<Vec<u8>>) -> Result<(), AllocError>
     ensures { OnOk result
         (out.new.items ≡ out.old.items ++ value_text kind (option_map (λ v. v.items) value.now)) }

@@ -43,7 +43,8 @@ fn all_columns(alloc: Global, count: usize) -> Result<Vec<usize>, AllocError>
     Ok(columns)
 }
 
-/// Returns the names of the columns of a text. The only error is `Memory`.
+/// Returns the names of the columns of a CSV text: the fields of the first record, or without a
+/// header the decimal numbers from 1 on. The only error is `Memory`.
 fn names_in<R: Read + Drop>(alloc: Global, source: &Source<R>) -> Result<BinaryArray<i64>, CsvError>
     ensures { MatchResult result
         (λ names. (options : CsvOptions) (text : List ℕ) (records : List (List (List ℕ)))
@@ -56,8 +57,8 @@ fn names_in<R: Read + Drop>(alloc: Global, source: &Source<R>) -> Result<BinaryA
     }
 }
 
-/// Returns the schema of a column of a table. `name` is the name of the column. The only error is
-/// `Memory`.
+/// Returns the schema of a column of a table. `name` is the name of the column. A cell that equals
+/// `null` is null; with `None` no cell is null. The only error is `Memory`.
 fn column_schema(
     alloc: Global,
     name: &[u8],
@@ -76,8 +77,8 @@ fn column_schema(
     }
 }
 
-/// Returns the schemas of the columns of a table. `names` has the names of the columns. The only
-/// error is `Memory`.
+/// Returns the schemas of the columns of a table. `names` has the names of the columns. A cell that
+/// equals `null` is null; with `None` no cell is null. The only error is `Memory`.
 fn schemas_of(
     alloc: Global,
     names: &BinaryArray<i64>,
@@ -97,8 +98,9 @@ fn schemas_of(
     Ok(columns)
 }
 
-/// Reads a CSV text, and returns the schema of its columns. A cell that equals `null` is null; with
-/// `None` no cell is null. Fails as `Source::open` and `Source::read` of `diff_csv` do.
+/// Reads a CSV text from `input`, and returns the number of its rows and the schemas of its
+/// columns. A cell that equals `null` is null; with `None` no cell is null. Fails with the errors
+/// of `Source::open` and `Source::read` of `diff_csv`.
 pub fn read_schema<R: Read + Drop>(
     alloc: Global,
     input: R,

@@ -23,8 +23,8 @@ pub enum Form {
     Json,
 }
 
-/// Appends the schema of a table in this form. `file` is the name of its file. The only error is
-/// `Memory`.
+/// Appends the schema of a table in the form `form`. `file` is the name of the table's file, which
+/// only `Form::Text` shows. The only error is `Memory`.
 pub fn push_form(
     alloc: Global,
     out: &mut Vec<u8>,
@@ -47,9 +47,9 @@ pub fn push_form(
     }
 }
 
-/// Reads a CSV text, and appends the schema of its columns in this form. `file` is the name of the
-/// text's file. A cell that equals `null` is null; with `None` no cell is null. Fails as
-/// `Source::open` and `Source::read` of `diff_csv` do.
+/// Reads a CSV text from `input`, and appends the schema of its columns in the form `form`. `file`
+/// is the name of the text's file. A cell that equals `null` is null; with `None` no cell is null.
+/// Fails with the errors of `Source::open` and `Source::read` of `diff_csv`.
 pub fn push_schema_of<R: Read + Drop>(
     alloc: Global,
     out: &mut Vec<u8>,

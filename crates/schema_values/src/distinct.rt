@@ -12,7 +12,7 @@ use polars_arrays_flat::byte_rows::ByteRows;
 use std::alloc::Global;
 use std::collections::HashMap;
 
-/// Returns the number of different byte strings. The only error is `Memory`.
+/// Returns the number of different byte strings in `cells`. The only error is `Memory`.
 pub fn count_strings(alloc: Global, cells: &BinaryArray<i64>) -> Result<usize, ComputeError>
     ensures { MatchResult result
         (λ count. count ≡ distinct_total bytes_eq (offset_strings (λ x. x) cells.now)) IsMemory }

@@ -16,8 +16,9 @@ use polars_arrays_bytes::binary::BinaryArray;
 use polars_arrays_flat::byte_rows::ByteRows;
 use std::alloc::Global;
 
-/// Appends the normal text of the number in a cell to `texts`. `room` is memory that is
-/// overwritten. Fails with `WideExponent` if the exponent has more than 30 digits.
+/// Appends the normal text of the number in `cell` to `texts`. `room` is a buffer that is
+/// overwritten. Fails with `WideExponent` if the exponent has more than 30 digits, and with
+/// `Memory` if an allocation fails.
 fn push_normal(texts: &mut Strings, room: &mut Vec<u8>, cell: &[u8]) -> Result<(), NumberError>
     requires { is_number cell.now ≡ true }
     ensures ok { OnOk result
@@ -36,7 +37,7 @@ fn push_normal(texts: &mut Strings, room: &mut Vec<u8>, cell: &[u8]) -> Result<(
 }
 
 /// Returns the normal text of the number in each cell. Each cell must be a number. Fails with
-/// `WideExponent` if an exponent has more than 30 digits.
+/// `WideExponent` if an exponent has more than 30 digits, and with `Memory` if an allocation fails.
 pub(crate) fn normal_texts(alloc: Global, cells: &BinaryArray<i64>) -> Result<Strings, NumberError>
     requires { All IsNumber (offset_strings (λ x. x) cells.now) }
     ensures { MatchResult result (AreNormal (offset_strings (λ x. x) cells.now))

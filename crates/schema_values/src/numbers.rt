@@ -33,8 +33,9 @@ pub struct Values {
     pub greatest: Option<Vec<u8>>,
 }
 
-/// Returns the least number, or the greatest if `greatest` is set, in the spelling that comes
-/// first. Returns `None` if there are no numbers.
+/// Returns a copy of the first cell that has the least number, or the greatest if `greatest` is
+/// set. Returns `None` if there are no cells. Each cell must be a number whose exponent has at most
+/// 30 digits (`IsNarrow`).
 fn best_text(
     alloc: Global,
     cells: &BinaryArray<i64>,
@@ -53,10 +54,10 @@ fn best_text(
     Ok(Some(text))
 }
 
-/// Returns the number of different numbers, and the least and the greatest in the spelling that
-/// comes first. Each cell must be a number in JSON syntax whose exponent has at most 30 digits,
-/// leading zeros not counted (`IsNarrow`). `texts` has the normal text of each cell. The only error
-/// is `Memory`.
+/// Returns the number of different numbers in `cells`, and the least and the greatest, each spelled
+/// as in the first cell with this value. Each cell must be a number in JSON syntax whose exponent
+/// has at most 30 digits, leading zeros not counted (`IsNarrow`). `texts` has the normal text of
+/// each cell. The only error is `Memory`.
 fn exact_values(
     alloc: Global,
     cells: &BinaryArray<i64>,
@@ -78,9 +79,10 @@ fn exact_values(
     })
 }
 
-/// Returns the number of different numbers, and the least and the greatest in the spelling that
-/// comes first. Each cell must be a number in JSON syntax. All fields are `None` if a number has an
-/// exponent of more than 30 digits, leading zeros not counted. The only error is `Memory`.
+/// Returns the number of different numbers in `cells`, and the least and the greatest, each spelled
+/// as in the first cell with this value. Each cell must be a number in JSON syntax. All fields are
+/// `None` if a number has an exponent of more than 30 digits, leading zeros not counted. The only
+/// error is `Memory`.
 pub fn number_values(alloc: Global, cells: &BinaryArray<i64>) -> Result<Values, ComputeError>
     requires { All IsNumber (offset_strings (λ x. x) cells.now) }
     ensures { MatchResult result

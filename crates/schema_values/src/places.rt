@@ -41,8 +41,8 @@ fn is_better(greatest: bool, left: &[u8], right: &[u8]) -> bool
     }
 }
 
-/// Returns `other` if the number in that cell is better than the one in cell `best` (see
-/// `is_better`), and else `best`.
+/// Returns `other` if the number in the cell at index `other` is better (see `is_better`) than the
+/// number in the cell at index `best`, and else `best`.
 fn better_place(cells: &BinaryArray<i64>, greatest: bool, best: usize, other: usize) -> usize
     requires all { All IsNarrow (offset_strings (λ x. x) cells.now) }
     requires best { best < length (offset_strings (λ x. x) cells.now) }
@@ -58,8 +58,8 @@ fn better_place(cells: &BinaryArray<i64>, greatest: bool, best: usize, other: us
     }
 }
 
-/// Returns the index of the least number, or of the greatest if `greatest` is set. If several cells
-/// have this value, returns the first of them.
+/// Returns the index of the cell with the least number, or with the greatest if `greatest` is set.
+/// If several cells have this value, returns the first index. There must be at least one cell.
 pub(crate) fn best_place(cells: &BinaryArray<i64>, greatest: bool) -> usize
     requires all { All IsNarrow (offset_strings (λ x. x) cells.now) }
     requires some { 0 < length (offset_strings (λ x. x) cells.now) }

@@ -1,3 +1,4 @@
-//! Worked examples of the definitions that the contracts of the kernels and of the comparer rest
-//! on. They stand in `proofs/`, and the check of this crate evaluates them. There are no functions.
+//! Worked examples of definitions that the contracts of the kernels and of the file comparison use.
+//! The examples are in `proofs/`, and are evaluated when this crate is checked. The crate has no
+//! functions.
 #![tactic(auto)]

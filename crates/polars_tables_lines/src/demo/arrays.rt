@@ -39,7 +39,7 @@ fn boxed(alloc: Global, array: AnyArray) -> Result<Box<AnyArray>, Fault>
     Ok(Box::new(alloc, array)?)
 }
 
-// Creates a buffer of a copy of these elements.
+// Copies `elements` into a new buffer.
 fn buffer<T: Copy>(alloc: Global, elements: &[T]) -> Result<Buffer<T>, Fault> {
     Ok(Buffer::from_vec(Vec::from_slice(alloc, elements)?))
 }
@@ -59,7 +59,7 @@ pub fn nulls(alloc: Global, len: usize) -> Result<Box<AnyArray>, Fault>
     boxed(alloc, AnyArray::Null(NullArray::new(len)))
 }
 
-// Creates a buffer of offsets, and a validity.
+// Creates a buffer of `offsets`, and a validity as `validity` does.
 fn row_parts(
     alloc: Global,
     offsets: &[i32],
@@ -70,8 +70,8 @@ fn row_parts(
     Ok((offsets, validity))
 }
 
-/// Creates an array of texts: text `i` is `bytes[ends[i]..ends[i + 1]]`. A row is null if it is
-/// false in `present`.
+/// Creates an array of texts: text `i` is `bytes[ends[i]..ends[i + 1]]`. Row `i` is null if
+/// `present[i]` is false. Without `present`, no row is null.
 pub fn texts(
     alloc: Global,
     ends: &[i32],
@@ -86,8 +86,8 @@ pub fn texts(
     boxed(alloc, AnyArray::Utf8(array))
 }
 
-/// Creates an array of lists: list `i` has the items `offsets[i]..offsets[i + 1]`. A row is null if
-/// it is false in `present`.
+/// Creates an array of lists: list `i` has the items `offsets[i]..offsets[i + 1]`. Row `i` is null
+/// if `present[i]` is false. Without `present`, no row is null.
 pub fn lists(
     alloc: Global,
     offsets: &[i32],
@@ -109,7 +109,8 @@ pub fn lists(
     }
 }
 
-/// Creates an array of empty lists. A row is null if it is false in `present`.
+/// Creates an array of empty lists, one for each element of `present`. Row `i` is null if
+/// `present[i]` is false.
 pub fn empty_lists(alloc: Global, present: &[bool]) -> Result<Box<AnyArray>, Fault>
     ensures { IfOk result (λ array. IsGood array.value) }
 {
@@ -119,7 +120,7 @@ pub fn empty_lists(alloc: Global, present: &[bool]) -> Result<Box<AnyArray>, Fau
     boxed(alloc, AnyArray::FixedSizeList(array))
 }
 
-/// Creates a dictionary array of keys and entries. A row is null if it is false in `present`.
+/// Creates a dictionary array of keys and entries. Row `i` is null if `present[i]` is false.
 pub fn entries(
     alloc: Global,
     keys: &[u32],
@@ -141,7 +142,7 @@ pub fn entries(
     }
 }
 
-// Creates an array of keys. A row is null if it is false in `present`.
+// Creates an array of keys. Row `i` is null if `present[i]` is false.
 fn entry_keys(alloc: Global, keys: &[u32], present: &[bool]) -> Result<PrimitiveArray<u32>, Fault> {
     let keys = buffer(alloc, keys)?;
     let validity = validity(alloc, Some(present))?;

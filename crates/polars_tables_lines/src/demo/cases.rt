@@ -24,7 +24,8 @@ pub fn two_fields(alloc: Global, a: &[i32], b: &[i32]) -> Result<Box<AnyArray>, 
     structs(alloc, first, Some(numbers(alloc, b)?))
 }
 
-/// Creates an array of three lists of numbers. The last list is null.
+/// Creates an array of three lists of numbers: list `i` has the items `offsets[i]..offsets[i + 1]`.
+/// The last list is null.
 pub fn number_lists(alloc: Global, offsets: &[i32], items: &[i32]) -> Result<Box<AnyArray>, Fault>
     ensures { IfOk result (λ array. IsGood array.value) }
 {
@@ -36,15 +37,16 @@ pub fn number_lists(alloc: Global, offsets: &[i32], items: &[i32]) -> Result<Box
     )
 }
 
-/// Creates an array of lists of nulls. `items` is the number of nulls in all lists.
+/// Creates an array of lists of nulls: list `i` has the items `offsets[i]..offsets[i + 1]`. `items`
+/// is the number of nulls in all lists.
 pub fn null_lists(alloc: Global, offsets: &[i32], items: usize) -> Result<Box<AnyArray>, Fault>
     ensures { IfOk result (λ array. IsGood array.value) }
 {
     lists(alloc, offsets, None, nulls(alloc, items)?)
 }
 
-/// Creates a dictionary array of three rows: an entry, a null and an entry. The two entries are the
-/// characters of `letters`.
+/// Creates a dictionary array of three rows with the keys `keys`. The second row is null. The two
+/// entries are the characters of `letters`.
 pub fn letters(alloc: Global, keys: &[u32], letters: &str) -> Result<Box<AnyArray>, Fault>
     ensures { IfOk result (λ array. IsGood array.value) }
 {

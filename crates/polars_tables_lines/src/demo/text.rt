@@ -16,7 +16,7 @@ use polars_arrays_numbers::steps::Steps;
 use polars_compare_nested::kernels::array_tot_eq_missing_kernel_counted;
 use std::alloc::{AllocError, Global};
 
-// Appends for each row whether the two sides are equal, and then the number of comparisons.
+// Appends `true` or `false` for each bit of `same`, and then `seen`, the number of comparisons.
 fn push_bits(text: &mut String, same: &Bitmap, seen: u64) -> Result<(), Fault> {
     for i in 0..same.len() {
         if i > 0 {
@@ -67,8 +67,8 @@ fn push_answer(
     push_same(alloc, text, &left, &right)
 }
 
-// Appends the error of a comparison, if there is one. If the error is `Memory`, appends nothing and
-// returns it as `AllocError`.
+// Appends the error in `answer`, the outcome of a comparison, if there is one. If the error is
+// `Memory`, appends nothing and returns it as `AllocError`.
 fn push_refusal(text: &mut String, answer: Result<(), Fault>) -> Result<(), AllocError> {
     match answer {
         Ok(()) => Ok(()),
@@ -77,7 +77,8 @@ fn push_refusal(text: &mut String, answer: Result<(), Fault>) -> Result<(), Allo
     }
 }
 
-// Appends the line of a pair of arrays. The error is that memory ran out.
+// Compares a pair of arrays, and appends a line with the name of the pair and the result or the
+// error. Returns an error only if memory ran out.
 fn push_case(
     alloc: Global,
     text: &mut String,
