@@ -193,7 +193,8 @@ def test_streams() -> None:
     (lambda: dunkelva.count_ones({"a": [1]}), "column: it is a table"),
     (lambda: dunkelva.is_null({"a": [1]}), "column: it is a table"),
     (lambda: dunkelva.diff([1], [1], on="id"), "left is no table"),
-    (lambda: dunkelva.diff({"a": [1.5]}, {"a": [1.5]}, on="a"), "a key has none"),
+    (lambda: dunkelva.diff({"a": [1.5]}, {"a": [1.5]}, on="a"),
+     "column 'a' of the key is float64: .* a key has none"),
     (lambda: dunkelva.diff({"a": [1]}, {"a": ["1"]}, on="a"), "column 'a'"),
 ])
 def test_other_calls(call: Any, words: str) -> None:

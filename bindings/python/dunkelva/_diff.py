@@ -7,7 +7,7 @@ from typing import Dict, Iterable, List, Optional, Sequence, Tuple, Union
 import numpy as np
 import numpy.typing as npt
 
-from ._library import FLOATS_BY_BITS, TypesDiffer, compare, compare_rows
+from ._library import FLOATS_BY_BITS, NotServed, TypesDiffer, compare, compare_rows
 from ._match import Matched, match
 from ._sources import Rows, Side, Source, Table, as_rows, pair, pair_rows, read, typed
 from ._structs import Column
@@ -168,6 +168,10 @@ def diff(left: object, right: object, on: Union[str, Sequence[str]] = (), *,
                                   f"{sides[1].type}")
             else:
                 found.types[name] = str(sides[0].type), str(sides[1].type)
+    for name in key:
+        if pairs[name][0].type.has_floats():
+            raise NotServed(f"column {name!r} of the key is {pairs[name][0].type}: there is more "
+                            "than one way to compare floats, so a key has none")
     matched = match([pairs[name] for name in key], len(lefts), len(rights))
     _fill(found, pairs, matched, flags, limit)
     del found.differences[len(found.differences) if limit is None else limit:]

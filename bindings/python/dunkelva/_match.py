@@ -6,7 +6,7 @@ from typing import Any, Dict, Hashable, NamedTuple, Sequence, Tuple
 import numpy as np
 import numpy.typing as npt
 
-from ._library import NotServed, compare
+from ._library import compare
 from ._structs import Column
 from ._values import names_of, numbers_of, present_rows
 
@@ -30,9 +30,6 @@ def match(keys: Sequence[Tuple[Column, Column]], left_rows: int, right_rows: int
                        np.arange(both, right_rows))
     codes: _Places = np.zeros(left_rows + right_rows, np.int64)
     for place, (left, right) in enumerate(keys):
-        if left.type.has_floats():
-            raise NotServed(f"a column of the key is {left.type}: there is more than one way to "
-                            "compare floats, so a key has none")
         for side, column in (("left", left), ("right", right)):
             compare(column, column, 0, f"the key of {side}: ")  # reads no array that is none
         more = _codes(left, right)
