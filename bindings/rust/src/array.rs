@@ -24,7 +24,7 @@ use std::sync::Arc;
 /// of the array, such as after [`slice`](Array::slice). Calls that compare rows read numbers in
 /// place, and copy rows of other types in blocks of some thousand rows.
 ///
-/// The rows of an array can be compared, but not read back, except numbers:
+/// The rows of an array can be compared, but not read back, except whole numbers:
 /// [`to_numbers`](Array::to_numbers).
 ///
 /// Lengths are checked when an array is made, so no call reads past the end of a slice. Offsets
