@@ -24,7 +24,7 @@ quick: ## Build the program without a proof (out/quick/dunkelva; minutes)
 program: ## Prove and build the program (crates/dunkelva/out/dunkelva; half an hour to an hour)
 	cd crates/dunkelva && rt run -- --version
 
-prove: ## Prove everything and run all tests (the gate; one to two and a half hours)
+prove: ## Prove everything and run the tests (the gate; one to two and a half hours)
 	.ci/run
 
 test: ## Run most stored inputs without a proof (minutes)
