@@ -1,5 +1,5 @@
 /* Equality of plain arrays of numpy, as in dunkelva/_plain.py, without the costs of ctypes. */
-#define Py_LIMITED_API 0x030b0000 /* the first stable ABI with buffers; 3.9 has the same ones */
+#define Py_LIMITED_API 0x030b0000 /* the first stable ABI with buffers, which 3.9 exports too */
 #include <Python.h>
 #include <stdbool.h>
 #include <string.h>
@@ -80,7 +80,11 @@ static PyObject *equal(PyObject *kept, PyObject *const *objects, Py_ssize_t coun
     PyBuffer_Release(&sides[--read]);
   }
   PyErr_Clear();
-  return made != NULL ? made : Py_NewRef(Py_None);
+  if (made == NULL) {
+    Py_INCREF(Py_None);
+    made = Py_None;
+  }
+  return made;
 }
 
 /* Returns a function that keeps a tuple. */
