@@ -93,7 +93,7 @@ build_library() {
     mv "$made.a" "$archive"
 }
 
-# Builds the program where a file has changed. The peers are at their best: no jump of theirs
+# Builds the program where a file has changed. The plain Rust is at its best: none of its jumps
 # crosses a boundary of 32 bytes, which costs a short loop up to a fifth.
 build_program() {
     local program="$built/bench"
