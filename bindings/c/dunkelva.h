@@ -13,7 +13,9 @@
  *   that the call writes. So a state of distinct values can't be merged with itself, and
  *   `least` and `greatest` of `dunkelva_min_max` must be two structs.
  * - The library has no state of its own: nothing is stored between two calls. A call runs in the
- *   thread of its caller. Many threads can call at the same time, also with the same columns.
+ *   thread of its caller. Many threads can call at the same time, also with the same columns. Two
+ *   calls at the same time must not write to the same memory, and a call must not read memory that
+ *   another one writes, such as a state. During a call nothing may change or release its columns.
  * - A result depends only on the rows of a column. It does not depend on values that are stored
  *   under nulls, on offsets, on how rows are split into buffers, or on whether a column without
  *   nulls has a validity bitmap. The member `null_count` is never read.
@@ -72,7 +74,9 @@ struct ArrowArray {
 
 /* A stream of arrays of one type, as the Arrow C stream interface defines it. No call of this
  * header takes a stream: get the schema and each array from the stream, and pass these to
- * `dunkelva_equal_rows`. The guard leaves the struct out if another header has defined it. */
+ * `dunkelva_equal_rows`. An array whose `release` is null ends the stream: do not pass it. Release
+ * each array before you get the next one into it. The guard leaves the struct out if another header
+ * has defined it. */
 #ifndef ARROW_C_STREAM_INTERFACE
 #define ARROW_C_STREAM_INTERFACE
 
@@ -107,8 +111,8 @@ enum dunkelva_status {
   /* The call does not take columns of this type, or an enum argument has none of its values. */
   DUNKELVA_NOT_SERVED = 5,
   /* A struct breaks the interface: a count or a length is wrong, a pointer is null, a struct was
-   * released, or a child has fewer rows than its parent needs. Or the column has more types or more
-   * levels than the library takes. */
+   * released, or a child has fewer rows than its parent needs. Or the column has more types, levels
+   * or buffers of views than the library takes. */
   DUNKELVA_BAD_STRUCTS = 6,
   /* An argument is wrong:
    * - `flags` has an unknown bit;
@@ -136,9 +140,11 @@ enum dunkelva_status {
  * row i of `right`.
  *
  * Bit i of `out` is 1 if the two rows i are equal, and else 0. Bit i is bit i % 8 of byte i / 8, as
- * in a validity bitmap of Arrow. The call writes (length + 7) / 8 bytes to `out`; the bits after
- * the last row are 0. `out_bytes` is the size of `out` in bytes. `flags` is 0, or
- * DUNKELVA_FLOATS_BY_BITS and DUNKELVA_CHECK_TEXTS combined by |.
+ * in a validity bitmap of Arrow. To read it:
+ *     int is_same = out[i / 8] >> (i % 8) & 1;
+ * The call writes (length + 7) / 8 bytes to `out`; the bits after the last row are 0. `out_bytes`
+ * is the size of `out` in bytes. `flags` is 0, or DUNKELVA_FLOATS_BY_BITS and DUNKELVA_CHECK_TEXTS
+ * combined by |.
  *
  * - A null is equal only to a null.
  * - Lists are equal if they have the same number of items, and the items are equal.
@@ -180,6 +186,11 @@ int32_t dunkelva_equal_bytes(const struct ArrowSchema *left_type, const struct A
  * The two columns need the same type, but can have different lengths. So this call can compare two
  * streams whose arrays end at different rows: compare as many rows as both current arrays have
  * left, and then get the next array of each stream that has no row left.
+ *
+ * To compare field k of two struct columns, pass children[k] of each schema and array, the `offset`
+ * of each struct array as the first rows, and the struct's length as `rows`. Nulls of the structs
+ * themselves have no effect then: ask `dunkelva_is_null` for them. What the fields store under a
+ * null struct is compared too.
  *
  * Bit i of `out` is 1 if row left_first + i of `left` and row right_first + i of `right` are equal,
  * and else 0. The call writes (rows + 7) / 8 bytes to `out`, from bit 0 on; the bits after the last
