@@ -1,7 +1,8 @@
 //! The type of columns.
 #![forbid(unsafe_code)]
 
-use crate::lent::{shared, Content, Lent, Shared};
+use crate::lent::{inside_foreign, shared, text_of, type_text, Content, Lent, Shared};
+use crate::make::{MOST_LEVELS, MOST_TYPES};
 #[cfg(feature = "ffi")]
 use crate::sys::Foreign;
 use crate::types::sealed::Sealed;
@@ -241,18 +242,15 @@ impl<'a> Array<'a> {
         Ok(())
     }
 
-    /// Returns the format, with those of the types inside. Of columns of other crates these are not
-    /// looked at.
+    /// Returns the format, with those of the types inside.
     pub(crate) fn type_text(&self) -> String {
         let inside = match &self.content {
             Content::Lent(lent) => lent.inside(),
-            Content::Foreign(foreign) if foreign.is_nested() => vec![String::from("..")],
-            Content::Foreign(_) => Vec::new(),
+            Content::Foreign(foreign) => {
+                inside_foreign(foreign.type_of(), MOST_LEVELS - 1, &mut { MOST_TYPES })
+            }
         };
-        match &inside[..] {
-            [] => self.format().into(),
-            inside => format!("{}<{}>", self.format(), inside.join(", ")),
-        }
+        type_text(self.format(), &inside)
     }
 
     /// Returns the plain format of the whole numbers of 8 to 64 bits that the rows are kept as.
@@ -327,10 +325,4 @@ impl fmt::Debug for Array<'_> {
             .field("rows", &self.rows)
             .finish_non_exhaustive()
     }
-}
-
-/// Returns the text of a format, without the byte 0 at its end.
-fn text_of(format: &[u8]) -> &str {
-    let format = format.strip_suffix(b"\0").unwrap_or(format);
-    std::str::from_utf8(format).unwrap_or_default()
 }

@@ -51,13 +51,29 @@ impl EqualOptions {
         }
     }
 
-    /// Returns an error with a hint, if the options do not take the floats that it is about.
-    fn explain(self, error: Error) -> Error {
-        if self.floats_by_bits {
-            error
-        } else {
-            error.or_floats()
+    /// Returns an error with a hint, if the options do not take the floats that it is about, and
+    /// the library takes all other types in the array.
+    fn explain(self, error: Error, left: &Array<'_>, right: &Array<'_>) -> Error {
+        let by_bits = self.floats_by_bits(true);
+        match &error {
+            Error::Unsupported { format } if !self.floats_by_bits => {
+                let would_take = |it: &Array<'_>| it.type_text() == *format && by_bits.takes(it);
+                match would_take(left) || would_take(right) {
+                    true => error.or_floats(),
+                    false => error,
+                }
+            }
+            _ => error,
         }
+    }
+
+    /// Says whether arrays of the type of this one are compared.
+    fn takes(self, array: &Array<'_>) -> bool {
+        let no_rows = array.slice(0, 0);
+        no_rows.map_or(false, |it| {
+            let structs = Structs::of(&it);
+            sys::equal(&structs, &structs, self.flags(), &mut []) != 5
+        })
     }
 
     fn flags(self) -> u32 {
@@ -164,7 +180,7 @@ pub fn equal_with(
     let same = of_two(left, right, |one, other, out| {
         sys::equal(one, other, options.flags(), out)
     });
-    same.map_err(|error| options.explain(error))
+    same.map_err(|error| options.explain(error, left, right))
 }
 
 /// Compares two arrays as [`equal_with`] does, and counts the leaf values that were compared. A
@@ -194,7 +210,7 @@ pub fn equal_counted(
     let same = of_two(left, right, |one, other, out| {
         sys::equal_rows(one, other, options.flags(), out, &mut count)
     });
-    let same = same.map_err(|error| options.explain(error))?;
+    let same = same.map_err(|error| options.explain(error, left, right))?;
     Ok((same, count))
 }
 

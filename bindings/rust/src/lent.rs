@@ -1,7 +1,7 @@
 //! The memory that an array lends.
 #![forbid(unsafe_code)]
 
-use crate::sys::Foreign;
+use crate::sys::{Foreign, ForeignType};
 use crate::types::sealed::{Sealed, Slice};
 use crate::{Array, Buffer};
 use std::borrow::Cow;
@@ -58,23 +58,69 @@ impl Lent<'_> {
         *self.format != *b"n\0"
     }
 
-    /// Returns the texts of the types inside: fields with their names, items, entries. A name that
-    /// has other characters than letters, digits and `_` stands in quotes.
+    /// Returns the texts of the types inside: fields with their names, items, entries.
     pub(crate) fn inside(&self) -> Vec<String> {
         let is_struct = *self.format == *b"+s\0";
         let field = |field: &Field<'_>| {
             let text = field.array.type_text();
-            let name = field.name.to_string_lossy();
-            let is_plain = |it: &str| it.chars().all(|it| it.is_alphanumeric() || it == '_');
-            match (is_struct, !name.is_empty() && is_plain(&name)) {
-                (false, _) => text,
-                (true, true) => format!("{name}: {text}"),
-                (true, false) => format!("{name:?}: {text}"),
+            match is_struct {
+                true => with_name(&field.name.to_string_lossy(), &text),
+                false => text,
             }
         };
         let entries = self.entries.iter().map(|it| it.type_text());
         self.fields.iter().map(field).chain(entries).collect()
     }
+}
+
+/// Returns the text of a field. A name that has other characters than letters, digits and `_`
+/// stands in quotes.
+fn with_name(name: &str, text: &str) -> String {
+    let is_plain = name.chars().all(|it| it.is_alphanumeric() || it == '_');
+    match is_plain && !name.is_empty() {
+        true => format!("{name}: {text}"),
+        false => format!("{name:?}: {text}"),
+    }
+}
+
+/// Returns the texts of the types inside a type of another crate, as those of [`Lent::inside`].
+/// Those of more than `levels` levels, or of more than `types` types, are not looked at: `..`.
+pub(crate) fn inside_foreign(
+    outer: ForeignType<'_>,
+    levels: usize,
+    types: &mut usize,
+) -> Vec<String> {
+    let inside = match outer.inside(*types) {
+        Some(inside) if inside.is_empty() => return Vec::new(),
+        Some(inside) if levels > 0 => inside,
+        _ => return vec![String::from("..")],
+    };
+    *types -= inside.len();
+    let is_struct = outer.format() == Some(b"+s");
+    let field = |it: ForeignType<'_>| {
+        let format = text_of(it.format().unwrap_or_default());
+        let text = type_text(format, &inside_foreign(it, levels - 1, types));
+        let name = String::from_utf8_lossy(it.name().unwrap_or_default());
+        match is_struct {
+            true => with_name(&name, &text),
+            false => text,
+        }
+    };
+    inside.into_iter().map(field).collect()
+}
+
+/// Returns the text of a type with these types inside.
+pub(crate) fn type_text(format: &str, inside: &[String]) -> String {
+    match inside {
+        [] => format.into(),
+        inside => format!("{format}<{}>", inside.join(", ")),
+    }
+}
+
+/// Returns the text of a format, without the byte 0 at its end.
+pub(crate) fn text_of(format: &[u8]) -> &str {
+    let format = format.strip_suffix(b"\0").unwrap_or(format);
+    std::str::from_utf8(format).unwrap_or_default()
 }
 
 /// An array inside another.

@@ -10,7 +10,7 @@ use std::sync::Arc;
 
 /// The most levels of nested types, and the most types in all, that the library takes.
 pub(crate) const MOST_LEVELS: usize = 64;
-const MOST_TYPES: usize = 1 << 20;
+pub(crate) const MOST_TYPES: usize = 1 << 20;
 
 /// Constructors of arrays that are not nested.
 impl<'a> Array<'a> {

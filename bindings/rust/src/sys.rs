@@ -258,13 +258,13 @@ impl<'a> Foreign<'a> {
         self.schema
     }
 
+    pub(crate) fn type_of(&self) -> ForeignType<'a> {
+        ForeignType(self.schema)
+    }
+
     /// Returns the format, without the byte 0 at its end. That of a dictionary is that of its keys.
     pub(crate) fn format(&self) -> Option<&'a [u8]> {
-        if self.schema.format.is_null() {
-            return None;
-        }
-        // SAFETY: the format of a schema that keeps the rules is a text that ends with a byte 0.
-        Some(unsafe { CStr::from_ptr(self.schema.format) }.to_bytes())
+        self.type_of().format()
     }
 
     /// Says whether there are types inside: fields, items, or entries of a dictionary.
@@ -301,6 +301,51 @@ impl<'a> Foreign<'a> {
     }
 }
 
+/// The schema of a column of another crate, or one inside it. Only [`Foreign`] makes the first.
+#[derive(Clone, Copy)]
+pub(crate) struct ForeignType<'a>(&'a ArrowSchema);
+
+impl<'a> ForeignType<'a> {
+    /// Returns the format, without the byte 0 at its end. That of a dictionary is that of its keys.
+    pub(crate) fn format(self) -> Option<&'a [u8]> {
+        self.bytes(self.0.format)
+    }
+
+    /// Returns the name, without the byte 0 at its end.
+    pub(crate) fn name(self) -> Option<&'a [u8]> {
+        self.bytes(self.0.name)
+    }
+
+    /// Returns the types inside: fields or items, then the entries of a dictionary. Returns `None`
+    /// if they are more than `most`, or if one is missing or was released.
+    pub(crate) fn inside(self, most: usize) -> Option<Vec<ForeignType<'a>>> {
+        let (children, dictionary) = (self.0.children, self.0.dictionary);
+        let count = usize::try_from(self.0.n_children).ok()?;
+        let all = count.checked_add(usize::from(!dictionary.is_null()))?;
+        if all > most || (count != 0 && children.is_null()) {
+            return None;
+        }
+        // SAFETY: there are `count` pointers.
+        let children = (0..count).map(|place| unsafe { *children.add(place) });
+        let dictionary = Some(dictionary).filter(|it| !it.is_null());
+        children
+            .chain(dictionary)
+            .map(|it| {
+                // SAFETY: each pointer is null, or points to a schema that lives as long as the
+                // outer one. A schema that was released says so by its `release` alone.
+                let schema = unsafe { it.as_ref() }?;
+                schema.release.map(|_| ForeignType(schema))
+            })
+            .collect()
+    }
+
+    /// Returns the bytes of a text of the schema.
+    fn bytes(self, text: *const c_char) -> Option<&'a [u8]> {
+        // SAFETY: texts of a schema that keeps the rules end with a byte 0, and live as long.
+        (!text.is_null()).then(|| unsafe { CStr::from_ptr(text) }.to_bytes())
+    }
+}
+
 /// Columns of other crates.
 #[cfg(feature = "ffi")]
 impl<'a> crate::Array<'a> {
@@ -316,12 +361,14 @@ impl<'a> crate::Array<'a> {
     ///
     /// ```ignore
     /// use arrow::array::{Array as _, Int64Array};
+    /// use dunkelva::ffi::{ArrowArray, ArrowSchema};
     ///
     /// let column = Int64Array::from(vec![Some(1), None, Some(3)]);
     /// let (array, schema) = arrow::ffi::to_ffi(&column.to_data())?;
-    /// let (array_at, schema_at) = (std::ptr::addr_of!(array), std::ptr::addr_of!(schema));
+    /// let array_at = std::ptr::addr_of!(array).cast::<ArrowArray>();
+    /// let schema_at = std::ptr::addr_of!(schema).cast::<ArrowSchema>();
     /// // SAFETY: arrow-rs keeps the rules, and `schema` and `array` live longer than `lent`.
-    /// let lent = unsafe { dunkelva::Array::from_raw(array_at.cast(), schema_at.cast()) }?;
+    /// let lent = unsafe { dunkelva::Array::from_raw(array_at, schema_at) }?;
     /// println!("{:?}", dunkelva::wrapping_sum(&lent)?);
     /// ```
     ///

@@ -6,8 +6,8 @@ mod common;
 use common::digits;
 use dunkelva::ffi::{ArrowArray, ArrowSchema};
 use dunkelva::{
-    compare_number, equal, is_null, wrapping_neg, wrapping_sum, Array, Bitmap, Comparison, Error,
-    Numbers,
+    compare_number, equal, equal_with, is_null, wrapping_neg, wrapping_sum, Array, Bitmap,
+    Comparison, EqualOptions, Error, Numbers,
 };
 use std::os::raw::{c_char, c_void};
 use std::ptr;
@@ -95,6 +95,54 @@ impl Exported {
         // SAFETY: the structs are good, and are borrowed as long as the array lives.
         unsafe { Array::from_raw(array, schema) }
     }
+}
+
+/// An exported column with columns inside, to which its structs point.
+struct Nested {
+    outer: Exported,
+    _inside: Vec<Exported>,
+    _schemas: Vec<*mut OtherSchema>,
+    _arrays: Vec<*mut OtherArray>,
+}
+
+impl Nested {
+    /// Exports rows of structs whose fields have these names.
+    fn structs(fields: Vec<(&'static [u8], Exported)>) -> Self {
+        let named = |(name, mut field): (&'static [u8], Exported)| {
+            field.schema.name = name.as_ptr().cast();
+            field
+        };
+        Nested::new(b"+s\0", fields.into_iter().map(named).collect())
+    }
+
+    fn new(format: &'static [u8], mut inside: Vec<Exported>) -> Self {
+        let mut outer = Exported::new(format, &VALUES, &[0xff], 0, 6);
+        let (mut schemas, mut arrays): (Vec<_>, Vec<_>) = inside
+            .iter_mut()
+            .map(|it| (ptr::addr_of_mut!(it.schema), ptr::addr_of_mut!(it.array)))
+            .unzip();
+        let count = inside.len().try_into().unwrap();
+        outer.schema.n_children = count;
+        outer.schema.children = schemas.as_mut_ptr();
+        outer.array.n_buffers = 1;
+        outer.array.n_children = count;
+        outer.array.children = arrays.as_mut_ptr();
+        Nested {
+            outer,
+            _inside: inside,
+            _schemas: schemas,
+            _arrays: arrays,
+        }
+    }
+
+    fn array(&self) -> Result<Array<'_>, Error> {
+        self.outer.array()
+    }
+}
+
+/// Exports a column of this format without a null, each of whose values has up to 32 bits.
+fn flat(format: &'static [u8]) -> Exported {
+    Exported::new(format, &VALUES, &[0xff], 0, 6)
 }
 
 const VALUES: [i32; 6] = [9, 1, 2, 3, 4, 9];
@@ -224,6 +272,74 @@ fn types_that_are_refused() -> Result<(), Error> {
     assert_eq!(equal(&array, &numbers), Err(unsupported.clone()));
     assert_eq!(equal(&numbers, &array), Err(unsupported.clone()));
     assert_eq!(array.to_numbers::<i32>(), Err(unsupported));
+    Ok(())
+}
+
+#[test]
+fn floats_in_a_column_of_another_crate() -> Result<(), Error> {
+    let rows = Nested::structs(vec![(b"id\0", flat(b"i\0")), (b"a, b\0", flat(b"f\0"))]);
+    let array = rows.array()?;
+    let format = String::from("+s<id: i, \"a, b\": f>");
+    assert_eq!(
+        equal(&array, &array),
+        Err(Error::FloatsUnsupported { format })
+    );
+    let by_bits = EqualOptions::new().floats_by_bits(true);
+    assert_eq!(digits(&equal_with(&array, &array, by_bits)?), "111111");
+    // no hint, if the array has another type that is not supported
+    let rows = Nested::structs(vec![(b"a\0", flat(b"f\0")), (b"b\0", flat(b"+us:0\0"))]);
+    let array = rows.array()?;
+    let format = String::from("+s<a: f, b: +us:0>");
+    assert_eq!(equal(&array, &array), Err(Error::Unsupported { format }));
+    // entries of a dictionary
+    let mut entries = flat(b"f\0");
+    let mut keys = flat(b"i\0");
+    keys.schema.dictionary = ptr::addr_of_mut!(entries.schema);
+    keys.array.dictionary = ptr::addr_of_mut!(entries.array);
+    let array = keys.array()?;
+    let format = String::from("i<f>");
+    assert_eq!(
+        equal(&array, &array),
+        Err(Error::FloatsUnsupported { format })
+    );
+    Ok(())
+}
+
+#[test]
+fn structs_that_differ_in_the_type_of_a_field() -> Result<(), Error> {
+    let left = Nested::structs(vec![(b"id\0", flat(b"i\0")), (b"on\0", flat(b"i\0"))]);
+    let right = Nested::structs(vec![(b"id\0", flat(b"i\0")), (b"on\0", flat(b"tdD\0"))]);
+    let error = equal(&left.array()?, &right.array()?).unwrap_err();
+    assert_eq!(
+        error.to_string(),
+        "the types differ: +s<id: i, on: i> (Struct(id: Int32, on: Int32)) and \
+         +s<id: i, on: tdD> (Struct(id: Int32, on: Date32))"
+    );
+    Ok(())
+}
+
+#[test]
+fn types_inside_that_are_not_looked_at() -> Result<(), Error> {
+    let told = |it: &Nested| it.array().map(|it| format!("{it:?}"));
+    let shown = |text| Ok(format!("Array {{ type: {text:?}, rows: 6, .. }}"));
+    let mut rows = Nested::structs(vec![(b"a\0", flat(b"i\0"))]);
+    assert_eq!(told(&rows), shown("+s<a: i>"));
+    rows._inside[0].schema.name = ptr::null();
+    assert_eq!(told(&rows), shown("+s<\"\": i>"));
+    rows._inside[0].schema.name = b"\xff\0".as_ptr().cast();
+    assert_eq!(told(&rows), shown("+s<\"\u{fffd}\": i>"));
+    rows._inside[0].schema.format = b"\xff\0".as_ptr().cast();
+    assert_eq!(told(&rows), shown("+s<\"\u{fffd}\": >"));
+    rows._inside[0].schema.release = None;
+    assert_eq!(told(&rows), shown("+s<..>"));
+    rows._schemas[0] = ptr::null_mut();
+    assert_eq!(told(&rows), shown("+s<..>"));
+    rows.outer.schema.children = ptr::null_mut();
+    assert_eq!(told(&rows), shown("+s<..>"));
+    rows.outer.schema.n_children = -1;
+    assert_eq!(told(&rows), shown("+s<..>"));
+    let no_fields = Nested::structs(Vec::new());
+    assert_eq!(told(&no_fields), shown("+s"));
     Ok(())
 }
 
