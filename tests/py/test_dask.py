@@ -95,7 +95,7 @@ def test_refusals() -> None:
         dunkelva.dask.diff(frame, other, on="a")
     with pytest.raises(KeyError, match="right has no column 'f'"):
         dunkelva.dask.diff(frame, other, on="f")
-    with pytest.raises(dunkelva.NotServed, match="floats are no keys"):
+    with pytest.raises(dunkelva.NotServed, match="floats are no keys.* is \"Int64\"$"):
         dunkelva.dask.diff(frame, frame, on="f")
     with pytest.raises(ValueError, match="a shuffle needs a key"):
         dunkelva.dask.diff(frame, frame, on=[])

@@ -95,6 +95,60 @@ def test_report_of_columns() -> None:
         "left and right differ: left is int32, right is int64.")
 
 
+PERIODS = pd.period_range("2024", periods=2)
+UNREADABLE: Any = [PERIODS, pd.interval_range(0, 2), np.array([1j, 2]), pd.Categorical(PERIODS),
+                   pd.Categorical([1, "a"]), np.zeros((2, 1, 1))]
+
+
+@pytest.mark.parametrize("cells", UNREADABLE)
+def test_columns_that_cannot_be_read(cells: Any) -> None:
+    """They are refused only where they are compared or part of the key."""
+    left: Any = {"id": [1, 2], "n": [5, 6], "p": cells}
+    right: Any = {"id": [2, 1], "n": [6, 5], "p": cells}
+    sides = [(left, right)]
+    if np.ndim(cells) == 1:
+        sides += [(pd.DataFrame(left), pd.DataFrame(right)), (left, pd.DataFrame(right))]
+    for one, other in sides:
+        dunkelva.assert_equal(one, other, on="id", ignore="p")
+        dunkelva.assert_equal(one, other, on="id", only=["n"])
+        assert dunkelva.diff(one, other, ignore=["p"]).changed == 2
+        found = dunkelva.diff(one, {"id": [1, 2], "n": [5, 7]}, on="id")
+        assert found.left_columns == ("p",) and found.by_column == {"n": 1}
+        for call in (lambda: dunkelva.diff(one, other, on="id"),
+                     lambda: dunkelva.diff(one, other, on="p"),
+                     lambda: dunkelva.equal(one, other),
+                     lambda: dunkelva.diff(one, {"id": [1], "n": [5], "p": [1]}, on="id")):
+            with pytest.raises((dunkelva.NotServed, dunkelva.TypesDiffer),
+                               match="^left: column 'p': "):
+                call()
+        with pytest.raises((dunkelva.NotServed, dunkelva.TypesDiffer),
+                           match="^right: column 'p': "):
+            dunkelva.assert_equal({"id": [1], "n": [5], "p": [1]}, other, on="id")
+
+
+def test_columns_of_periods() -> None:
+    table = pd.DataFrame({"id": [1, 2], "p": PERIODS})
+    with pytest.raises(dunkelva.NotServed, match=r"^left: column 'p': period\[D\] is not served"):
+        dunkelva.diff(table, table, on="id")
+    with pytest.raises(dunkelva.NotServed, match="^left: column 't': column 'p': period"):
+        dunkelva.diff({"t": table}, {"t": table})
+    assert dunkelva.diff(table[["p"]], table[["p"]], ignore="p").same == 2
+    assert dunkelva.diff({"p": PERIODS}, {"p": [1, 2]}, ignore="p").same == 2
+    with pytest.raises(dunkelva.NotServed, match="^left: column 'a': str is no column"):
+        dunkelva.equal({"a": "text"}, {"a": [1]})
+    with pytest.raises(dunkelva.TypesDiffer, match=r"left: the columns have 2 \(a\), 1 \(b\)"):
+        dunkelva.diff({"a": [1, 2], "b": [1], "p": PERIODS}, {})
+
+
+def test_columns_of_other_libraries_that_cannot_be_read() -> None:
+    held = [column(("+s", [("id", "l"), ("x", "i")]), [(1, 5), (2, 6)], 1) for _ in range(2)]
+    for each in held:
+        each.schema.children[1].contents.format = b"+r"
+    dunkelva.assert_equal(Exported(held[0]), Exported(held[1]), on="id", ignore="x")
+    with pytest.raises(dunkelva.NotServed, match="column 'x': left is format"):
+        dunkelva.diff(Exported(held[0]), Exported(held[1]), on="id")
+
+
 def test_long_values() -> None:
     text = said(["x" * 100 + "left" + "y" * 100], ["x" * 100 + "right" + "y" * 100])
     assert "..xxxxxxxxxxlefty" in text and "..xxxxxxxxxxrighty" in text

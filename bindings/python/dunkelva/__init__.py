@@ -36,7 +36,7 @@ from ._numbers import (compare, count_ones, count_zeros, is_null, leading_ones, 
                        min, min_max, reduce_and, reduce_or, reduce_xor, sum, trailing_ones,
                        trailing_zeros)
 from ._plain import equal_plain
-from ._sources import Table, as_rows, pair, pair_rows, read
+from ._sources import Table, as_rows, pair, pair_rows, read, refuse_unread
 from ._unique import Unique, n_unique, unique
 
 __all__ = ["equal", "not_equal", "assert_equal", "diff", "Diff", "Difference",
@@ -109,6 +109,8 @@ def equal(left: object, right: object, *, floats_by_bits: bool = False,
 
 
 def _equal_tables(left: Table, right: Table, flags: int) -> npt.NDArray[np.bool_]:
+    for table in (left, right):
+        refuse_unread(table)
     lone = [f"{side} alone has the columns {alone}"
             for one, other, side in ((left, right, "left"), (right, left, "right"))
             if (alone := [name for name in one.columns if name not in other.columns])]

@@ -7,7 +7,7 @@ from typing import Dict, Iterable, List, Optional, Sequence, Tuple, Union
 import numpy as np
 import numpy.typing as npt
 
-from ._library import FLOATS_BY_BITS, NotServed, TypesDiffer, compare, compare_rows
+from ._library import FLOATS_BY_BITS, TypesDiffer, compare, compare_rows, not_served
 from ._match import Matched, match
 from ._sources import Rows, Side, Source, Table, as_rows, pair, pair_rows, read, typed
 from ._structs import Column
@@ -100,7 +100,7 @@ def diff(left: object, right: object, on: Union[str, Sequence[str]] = (), *,
     only : str or iterable of str, optional
         The columns to compare, besides those of the key. If not given, all columns are compared.
     ignore : str or iterable of str
-        The columns that are not compared.
+        The columns that are not compared. They can have any type.
     floats_by_bits : bool
         As in `equal`.
     limit : int, optional
@@ -169,9 +169,10 @@ def diff(left: object, right: object, on: Union[str, Sequence[str]] = (), *,
             else:
                 found.types[name] = str(sides[0].type), str(sides[1].type)
     for name in key:
-        if pairs[name][0].type.has_floats():
-            raise NotServed(f"column {name!r} of the key is {pairs[name][0].type}: there is more "
-                            "than one way to compare floats, so a key has none")
+        kind = pairs[name][0].type
+        if kind.has_floats():
+            raise not_served(f"column {name!r} of the key is {kind}: there is more than one way to "
+                             "compare floats, so a key has none", kind)
     matched = match([pairs[name] for name in key], len(lefts), len(rights))
     _fill(found, pairs, matched, flags, limit)
     del found.differences[len(found.differences) if limit is None else limit:]

@@ -81,13 +81,22 @@ def _said(status: int) -> str:
     return (text or b"").decode()
 
 
+# What is said where floats are refused.
+FLOATS_OF_PANDAS = "In pandas, whole numbers with gaps are floats unless their dtype is \"Int64\""
+
+
+def not_served(text: str, type: Type) -> NotServed:
+    """Returns the exception of a type that is not taken, with a hint where it has floats."""
+    return NotServed(f"{text}. {FLOATS_OF_PANDAS}" if type.has_floats() else text)
+
+
 def refusal(status: int, what: str, type: Type) -> Exception:
     """Returns the exception of a status other than 0 of a call on one column."""
     if status == _NO_MEMORY:
         return MemoryError("dunkelva: an allocation failed")
     if status == _NOT_SERVED:
         verb = "are" if " and " in what else "is"
-        return NotServed(f"{what} {verb} {type}, which is not served here")
+        return not_served(f"{what} {verb} {type}, which is not served here", type)
     if status == _TYPES_DIFFER:
         return TypesDiffer(f"{what}, {type}: {_said(status)}")
     if status in (_BAD_ARRAY, _BAD_STRUCTS, _BAD_ARGUMENT):
@@ -102,10 +111,10 @@ def _explained(status: int, left: Chunk, right: Chunk, flags: int, what: str) ->
     for side, chunk in (("left", left), ("right", right)):
         again, _ = _compared(chunk, 0, chunk, 0, len(chunk), flags)
         if again == _NOT_SERVED and chunk.type.has_floats() and not flags & FLOATS_BY_BITS:
-            return NotServed(
+            return not_served(
                 f"{what}{side} is {chunk.type}: floats are compared with floats_by_bits=True alone "
-                "(a NaN is then equal to a NaN of the same bits, and -0.0 is not equal to 0.0). "
-                "In pandas, whole numbers with gaps are floats unless their dtype is \"Int64\"")
+                "(a NaN is then equal to a NaN of the same bits, and -0.0 is not equal to 0.0)",
+                chunk.type)
         if again:
             return refusal(again, what + side, chunk.type)
     return refusal(status, what + "left", left.type)

@@ -8,8 +8,8 @@ from typing import TYPE_CHECKING, Any, Callable, List, Optional, Tuple
 import numpy as np
 import numpy.typing as npt
 
-from ._library import (BITS, COLUMN, NotServed, TypesDiffer, bits_for, declare, joined, refusal,
-                       unpacked, windows)
+from ._library import (BITS, COLUMN, NotServed, TypesDiffer, bits_for, declare, joined, not_served,
+                       refusal, unpacked, windows)
 from ._rows import Unfit, build
 from ._sources import Table, pair, read, typed
 from ._structs import Chunk, Column, address_of, part_of
@@ -101,7 +101,7 @@ def number_of_value(column: Column, value: object, names: Tuple[str, str]) -> Nu
         raise TypesDiffer(f"{names[1]}: {error}") from None
     numbers = None if kept is None else numbers_of(kept)
     if kept is None or numbers is None:
-        raise NotServed(f"{names[0]} is {kind}, which is not served here")
+        raise not_served(f"{names[0]} is {kind}, which is not served here", kind)
     if not present_rows(kept)[0]:
         raise TypesDiffer(f"{names[1]}: a value for all rows is no null")
     number = int(numbers[0])

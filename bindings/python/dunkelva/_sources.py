@@ -1,8 +1,9 @@
 """Sources of columns: numpy, pandas, Arrow, the interchange protocol of data frames, lists."""
 from __future__ import annotations
 
+import operator
 import sys
-from typing import Any, Dict, List, Mapping, Optional, Sequence, Tuple, Union
+from typing import Any, Dict, List, Mapping, NoReturn, Optional, Sequence, Tuple, Union
 
 import numpy as np
 import numpy.typing as npt
@@ -18,6 +19,9 @@ _NUMBERS = {np.dtype(kind): Type(form) for form, kind in NUMBERS.items()}
 _UNITS = {"s": "s", "ms": "m", "us": "u", "ns": "n"}
 _Nulls = Optional[npt.NDArray[np.bool_]]
 
+# Exceptions of a column that can't be read, though other columns of its table can.
+_REFUSED = (NotServed, TypesDiffer, Unfit)
+
 
 class Rows:
     """Python values whose type is open: that of the other side, or what both sides need."""
@@ -29,10 +33,24 @@ class Rows:
         return len(self.values)
 
 
+class Unread:
+    """A column of a table that can't be read. Its exception is raised where it is used."""
+
+    def __init__(self, error: ValueError, rows: int):
+        self.error, self.rows = error, rows
+
+    def __len__(self) -> int:
+        return self.rows
+
+    def refuse(self) -> NoReturn:
+        """Raises the exception, each time a new one: it keeps no frames alive."""
+        raise type(self.error)(str(self.error))
+
+
 class Table:
     """Columns by their names."""
 
-    def __init__(self, columns: Mapping[str, Union[Column, Rows]], rows: int,
+    def __init__(self, columns: Mapping[str, Union[Column, Rows, Unread]], rows: int,
                  whole: Optional[Column] = None):
         self.columns, self.rows, self.whole = dict(columns), rows, whole
 
@@ -40,20 +58,36 @@ class Table:
         return self.rows
 
 
-Side = Union[Column, Rows]
+Side = Union[Column, Rows, Unread]
 Source = Union[Side, Table]
 
 
 def read(value: object, side: str) -> Source:
     """Reads what an argument holds. `side` is its name in messages."""
     try:
-        return _read(value)
-    except NotServed as error:
-        raise NotServed(f"{side}: {error}") from None
-    except Unfit as error:
-        raise TypesDiffer(f"{side}: {error}") from None
+        source = _read(value)
+    except _REFUSED as error:
+        raise _refusal(error, side) from None
     except ValueError as error:
         raise BadArray(f"{side}: {error}") from error
+    if isinstance(source, Table):
+        for column in source.columns.values():
+            if isinstance(column, Unread):
+                column.error = _refusal(column.error, side)
+    return source
+
+
+def _refusal(error: ValueError, side: str) -> ValueError:
+    """Returns the exception that a caller sees, with the name of the argument."""
+    text = f"{side}: {error}"
+    return NotServed(text) if isinstance(error, NotServed) else TypesDiffer(text)
+
+
+def refuse_unread(table: Table) -> None:
+    """Raises the exception of the first column that can't be read, if there is one."""
+    for column in table.columns.values():
+        if isinstance(column, Unread):
+            column.refuse()
 
 
 def _read(value: Any) -> Source:
@@ -89,14 +123,20 @@ def _columns(columns: Mapping[str, object]) -> Table:
     for name, column in columns.items():
         try:
             inner = _read(column)
-        except (NotServed, Unfit) as error:
-            raise type(error)(f"column {name!r}: {error}") from None
-        made[name] = whole(inner) if isinstance(inner, Table) else inner
-    lengths = set(map(len, made.values()))
-    if len(lengths) > 1:
+            made[name] = whole(inner) if isinstance(inner, Table) else inner
+        except _REFUSED as error:
+            made[name] = _unread(error, name, operator.length_hint(column))
+    were_read = {name: side for name, side in made.items() if not isinstance(side, Unread)}
+    lengths = {name: len(side) for name, side in (were_read or made).items()}
+    if were_read and len(set(lengths.values())) > 1:
         raise Unfit("the columns have " + ", ".join(
-            f"{len(column)} ({name})" for name, column in made.items()) + " rows")
-    return Table(made, lengths.pop() if lengths else 0)
+            f"{length} ({name})" for name, length in lengths.items()) + " rows")
+    return Table(made, max(lengths.values(), default=0))
+
+
+def _unread(error: ValueError, name: str, rows: int) -> Unread:
+    """Keeps the exception of a column."""
+    return Unread(type(error)(f"column {name!r}: {error}"), rows)
 
 
 def _table_or_column(column: Column) -> Source:
@@ -155,6 +195,8 @@ def typed(side: Side, kind: Optional[Type], what: str) -> Column:
     """Makes a column of Python values of a type, or of the type that they need."""
     if isinstance(side, Column):
         return side
+    if isinstance(side, Unread):
+        side.refuse()
     try:
         return Column([build(side.values, infer(side.values) if kind is None else kind)])
     except (Unfit, UnicodeEncodeError) as error:
@@ -275,8 +317,8 @@ def _frame(frame: Any) -> Table:
     for place, name in enumerate(names):
         try:
             made[name] = _series(frame.iloc[:, place])
-        except (NotServed, Unfit) as error:
-            raise type(error)(f"column {name!r}: {error}") from None
+        except _REFUSED as error:
+            made[name] = _unread(error, name, len(frame))
     return Table(made, len(frame))
 
 
@@ -327,16 +369,17 @@ def _interchanged(frame: Any) -> Table:
     if len(set(names)) < len(names):
         raise Unfit(f"a name comes twice among the columns {names}")
     parts = list(frame.get_chunks())
+    rows = sum(part.num_rows() for part in parts)
     columns: Dict[str, Side] = {}
     for place, name in enumerate(names):
         try:
             chunks = [_interchanged_column(part.get_column(place)) for part in parts]
+            if not chunks:
+                chunks = [no_rows(_interchanged_column(frame.get_column(place)).type)]
+            columns[name] = Column(chunks)
         except NotServed as error:
-            raise NotServed(f"column {name!r}: {error}") from None
-        if not chunks:
-            chunks = [no_rows(_interchanged_column(frame.get_column(place)).type)]
-        columns[name] = Column(chunks)
-    return Table(columns, sum(part.num_rows() for part in parts))
+            columns[name] = _unread(error, name, rows)
+    return Table(columns, rows)
 
 
 def _numbers_of(buffer: Tuple[Any, Any], first: int, rows: int) -> npt.NDArray[Any]:

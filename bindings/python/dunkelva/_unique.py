@@ -9,7 +9,7 @@ import numpy as np
 import numpy.typing as npt
 
 from ._library import (COLUMN, LIBRARY, OUT_OF_RANGE, NotServed, OutOfRange, TypesDiffer, declare,
-                       joined, refusal)
+                       joined, not_served, refusal)
 from ._numbers import NUMBER, Number, _column, extremes
 from ._rows import Unfit, build
 from ._sources import Table, read, typed
@@ -70,7 +70,7 @@ def _ends(low: object, high: object, kind: Type) -> Tuple[int, int]:
         raise TypesDiffer(f"range: {error}") from None
     numbers = numbers_of(kept)
     if numbers is None or kind.entries is not None or kind.has_floats():
-        raise NotServed(f"range: {kind} is not served here")
+        raise not_served(f"range: {kind} is not served here", kind)
     if not present_rows(kept).all():
         raise TypesDiffer("range: an end is no null")
     return int(numbers[0]), int(numbers[1])
@@ -85,7 +85,8 @@ class Unique:
 
     A state has one bit for each number from `low` to `high`. States of the same range and type can
     be merged in any order, and a state can be pickled. So parts of a column can be read in
-    different threads, processes or machines.
+    different threads, processes or machines. Two threads must not use one state at the same time:
+    give each its own, and merge them.
 
     Parameters
     ----------
@@ -220,7 +221,7 @@ class Unique:
             raise refusal(status, "states", self._type)
 
     def __len__(self) -> int:
-        """Returns the number of distinct values. Null is not counted."""
+        """Returns the number of distinct values. Null is not counted, unlike in `n_unique`."""
         values, rows = ctypes.c_uint64(), ctypes.c_uint64()
         self._check(_count(self._state, ctypes.byref(values), ctypes.byref(rows)), "state")
         return int(values.value)
@@ -376,7 +377,7 @@ def _sorted(column: Column) -> Tuple[npt.NDArray[Any], bool]:
 
 
 def unique(column: object) -> Masked:
-    """Returns the distinct rows of a column.
+    """Returns the distinct rows of a column that stores whole numbers, ascending, null last.
 
     If the rows have a wide range, numpy sorts them. This sorting is not proved. The range is wide
     if it has more than 524,288 numbers, and more than 64 numbers for each row.
@@ -416,7 +417,7 @@ def unique(column: object) -> Masked:
 def n_unique(column: object) -> int:
     """Returns the number of distinct rows of a column. Null counts as one.
 
-    The parameter and the exceptions are those of `unique`.
+    `len` of a `Unique` leaves null out. The parameter and the exceptions are those of `unique`.
 
     >>> n_unique([3, None, 1, 3])
     3

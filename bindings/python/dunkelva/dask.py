@@ -12,7 +12,7 @@ from dask.delayed import delayed
 
 from . import equal as _equal
 from ._diff import Diff, diff as _diff
-from ._library import NotServed, TypesDiffer
+from ._library import FLOATS_OF_PANDAS, NotServed, TypesDiffer
 from ._unique import Unique
 
 __all__ = ["equal", "diff", "unique"]
@@ -137,7 +137,7 @@ def _check_keys(left: Any, right: Any, keys: List[str]) -> None:
         for side, kind in zip(("left", "right"), types):
             if kind.kind == "f":
                 raise NotServed(f"column {name!r} of the key: {side} is {kind}, and floats are no "
-                                "keys")
+                                f"keys. {FLOATS_OF_PANDAS}")
         if types[0] != types[1] and "category" not in map(str, types):
             raise TypesDiffer(f"column {name!r} of the key: left is {types[0]}, right is "
                               f"{types[1]}")
