@@ -3,7 +3,7 @@ from __future__ import annotations
 
 import pickle
 import textwrap
-from typing import Any
+from typing import Any, Callable, Tuple
 
 import numpy as np
 import pandas as pd
@@ -114,10 +114,12 @@ def test_columns_that_cannot_be_read(cells: Any) -> None:
         assert dunkelva.diff(one, other, ignore=["p"]).changed == 2
         found = dunkelva.diff(one, {"id": [1, 2], "n": [5, 7]}, on="id")
         assert found.left_columns == ("p",) and found.by_column == {"n": 1}
-        for call in (lambda: dunkelva.diff(one, other, on="id"),
-                     lambda: dunkelva.diff(one, other, on="p"),
-                     lambda: dunkelva.equal(one, other),
-                     lambda: dunkelva.diff(one, {"id": [1], "n": [5], "p": [1]}, on="id")):
+        calls: Tuple[Callable[[], object], ...] = (
+            lambda: dunkelva.diff(one, other, on="id"),
+            lambda: dunkelva.diff(one, other, on="p"),
+            lambda: dunkelva.equal(one, other),
+            lambda: dunkelva.diff(one, {"id": [1], "n": [5], "p": [1]}, on="id"))
+        for call in calls:
             with pytest.raises((dunkelva.NotServed, dunkelva.TypesDiffer),
                                match="^left: column 'p': "):
                 call()
