@@ -21,10 +21,10 @@ help: ## List what can be made
 quick: ## Build the program without a proof (out/quick/dunkelva; minutes)
 	packaging/build_quick
 
-program: ## Prove and build the program (crates/dunkelva/out/dunkelva; half an hour to an hour)
+program: ## Prove and build the program (crates/dunkelva/out/dunkelva; about an hour)
 	cd crates/dunkelva && rt run -- --version
 
-prove: ## Prove everything and run the tests (the gate; one to two and a half hours)
+prove: ## Prove everything and run the tests (the gate; an hour and three quarters)
 	.ci/run
 
 test: ## Run most stored inputs without a proof (minutes)
