@@ -274,16 +274,18 @@ impl Bench {
             "{name}: the two sides answer differently"
         );
         let other = kernel.beside.unwrap_or(kernel.plain);
-        let repeats = repeats_for(least, ours).max(repeats_for(least, other));
+        // A kernel that stops early takes a thousandth of the time of its peer, so that each side has
+        // its own number of runs.
+        let (our_runs, other_runs) = (repeats_for(least, ours), repeats_for(least, other));
         let (mut our_best, mut other_best) = (Best::new(), Best::new());
         for _ in 0..times {
-            our_best.measure(repeats, ours);
-            other_best.measure(repeats, other);
+            our_best.measure(our_runs, ours);
+            other_best.measure(other_runs, other);
         }
         let best = self.best.entry((name.to_string(), count));
         let best = best.or_insert((f64::MAX, f64::MAX));
-        best.0 = best.0.min(our_best.each(repeats * count));
-        best.1 = best.1.min(other_best.each(repeats * count));
+        best.0 = best.0.min(our_best.each(our_runs * count));
+        best.1 = best.1.min(other_best.each(other_runs * count));
         *best
     }
 
