@@ -30,7 +30,7 @@ prove: ## Prove everything and run the tests (the gate; an hour and three quarte
 test: ## Run most stored inputs without a proof (minutes)
 	tests/quick
 
-bench: ## Time the kernels beside plain Rust (an hour or two once they are proved; QUICK=1: two minutes)
+bench: ## Time the kernels beside plain Rust (half an hour once they are proved; QUICK=1: two minutes)
 	bench/run.sh
 
 site: ## Make the pages as a site (out/site; needs mkdocs)
