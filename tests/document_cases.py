@@ -385,6 +385,9 @@ FILES = (
     (["--key", "order.idd"], b'{"order":{"day":1,"id":1},"n":1}\n', b"", 2,
      'left.ndjson: line 1: the key "order.idd" is missing: did you mean "order.id"? The document '
      'has "order", "n"'),
+    (["--key", "nte"], b'{"date":1,"note":2}\n', b"", 2,
+     'left.ndjson: line 1: the key "nte" is missing: did you mean "note"? The document has '
+     '"date", "note"'),
     (["--key", "Order.ID"], b'{"order":{"id":1}}\n', b"", 2,
      'left.ndjson: line 1: the key "Order.ID" is missing: did you mean "order.id"? The document '
      'has "order"'),

@@ -323,13 +323,14 @@ def cut_name(name):
     return table_reports.in_quotes(start) + (".." if start != name else "")
 
 
-def are_near(one, other):
-    """Returns whether two names differ in a few bytes at one place, their case aside."""
+def bytes_apart(one, other):
+    """Returns how many bytes of the longer of two names are not in the beginning and the end that
+    both have in common, their case aside, and how many are."""
     one, other = (name.encode().lower().replace(b"_", b"-") for name in (one, other))
     start = len(os.path.commonprefix([one, other]))
     most = min(len(one), len(other)) - start
     end = len(os.path.commonprefix([one[::-1][:most], other[::-1][:most]]))
-    return max(len(one), len(other)) - start - end <= 2 and start + end >= 2
+    return max(len(one), len(other)) - start - end, start + end
 
 
 def distance(one, other):
@@ -338,7 +339,8 @@ def distance(one, other):
         return 0
     if one.encode().lower().replace(b"_", b"-") == other.encode().lower().replace(b"_", b"-"):
         return 1
-    return 2 if are_near(one, other) else None
+    apart, common = bytes_apart(one, other)
+    return apart + 1 if apart <= 2 <= common else None
 
 
 def near_path(value, names):

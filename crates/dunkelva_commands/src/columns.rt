@@ -5,7 +5,7 @@ use diff_csv::source::Source;
 use dunkelva_messages::error::Result;
 use dunkelva_messages::files::open_again;
 use dunkelva_messages::names::{MOST_NAMES, push_more, push_name, quoted};
-use dunkelva_messages::near::{are_near, differ_by_case};
+use dunkelva_messages::near::distance;
 use polars_arrays_flat::byte_rows::ByteRows;
 use std::alloc::Global;
 
@@ -26,17 +26,17 @@ fn list_of<N: ByteRows>(alloc: Global, names: &N) -> Result<String> {
     Ok(text)
 }
 
-/// Returns the index of the first of `names` that differs from `wanted` only by case. If there is
-/// none, returns the index of the first name that is similar to `wanted`, or `None` if no name is.
+/// Returns the index of the name in `names` that is most similar to `wanted` (`distance`), or `None`
+/// if no name is similar. If several names are equally similar, returns the first one.
 fn nearest<N: ByteRows>(names: &N, wanted: &[u8]) -> Option<usize> {
+    let mut least = usize::MAX;
     let mut near = None;
     for c in 0..names.count() {
-        let name = names.bytes(c);
-        if differ_by_case(name, wanted) {
-            return Some(c);
-        }
-        if near.is_none() && are_near(name, wanted) {
-            near = Some(c);
+        if let Some(apart) = distance(names.bytes(c), wanted) {
+            if apart < least {
+                least = apart;
+                near = Some(c);
+            }
         }
     }
     near
@@ -59,7 +59,9 @@ fn other_delimiter<N: ByteRows>(names: &N, delimiter: u8) -> Option<char> {
 }
 
 /// Returns a question for a hint: whether `other` is the real delimiter of a file that was read
-/// with `delimiter`. Returns `None` if an allocation fails.
+/// with `delimiter`. The question names the option `--delimiter` if `other` is the byte 1 or
+/// `delimiter` is a comma. Otherwise it says that both files need the same delimiter. Returns `None`
+/// if an allocation fails.
 fn question_about_delimiter(alloc: Global, other: char, delimiter: u8) -> Option<String> {
     if other == '\u{1}' {
         return String::from_str(alloc, "is the byte 1 the --delimiter? It is \\x01.").ok();
@@ -67,7 +69,8 @@ fn question_about_delimiter(alloc: Global, other: char, delimiter: u8) -> Option
     if delimiter == b',' {
         return format!(in alloc; "is {other:?} the --delimiter?").ok();
     }
-    format!(in alloc; "is {other:?} its delimiter? Both files are read with one.").ok()
+    let both = "Both files need the same one: convert one of them, as csvformat does.";
+    format!(in alloc; "is {other:?} its delimiter? {both}").ok()
 }
 
 /// Returns a question about the column name `wanted`, which is not among `names`: whether another

@@ -297,7 +297,7 @@ fn lesser_key(rt: &HostRuntime, file: &str, line: u64, options: &Options<'_>) ->
 }
 
 /// Returns the error to print for `error`, which occurred in a comparison of the sorted tables
-/// named `names`. If `error` is about one of the two files, the returned error names this file.
+/// named `names`. For a key that falls or comes twice, the returned error names the file.
 pub(crate) fn sorted_trouble(
     rt: &HostRuntime,
     error: &SortedError,

@@ -3,7 +3,7 @@
 use crate::error::Result;
 use crate::lines::line_bytes;
 use crate::names::{MOST_NAMES, push_more, push_name, quoted};
-use crate::near::{are_near, differ_by_case};
+use crate::near;
 use json::{Scratch, Value};
 use std::alloc::Global;
 
@@ -18,24 +18,20 @@ fn list_of(alloc: Global, members: &[(&str, Value<'_>)]) -> Result<String> {
     Ok(list)
 }
 
-/// Returns how much two names differ: 0 if they are equal, 1 if they differ only by case, 2 if they
-/// are similar, and `None` otherwise.
-fn distance(one: &str, other: &str) -> Option<u8> {
+/// Returns how much two names differ, and `None` if they are not similar: 0 if they are equal, and
+/// else one more than `near::distance`.
+fn distance(one: &str, other: &str) -> Option<usize> {
     if one == other {
-        Some(0)
-    } else if differ_by_case(one.as_bytes(), other.as_bytes()) {
-        Some(1)
-    } else if are_near(one.as_bytes(), other.as_bytes()) {
-        Some(2)
-    } else {
-        None
+        return Some(0);
     }
+    let apart = near::distance(one.as_bytes(), other.as_bytes())?;
+    Some(apart.saturating_add(1))
 }
 
 /// Returns the index of the member with the name that is most similar to `wanted`, or `None` if no
 /// name is similar. If several names are equally similar, returns the first one.
 fn nearest(members: &[(&str, Value<'_>)], wanted: &str) -> Option<usize> {
-    let mut least = u8::MAX;
+    let mut least = usize::MAX;
     let mut found = None;
     for (i, (name, _)) in members.iter().enumerate() {
         if let Some(apart) = distance(name, wanted) {

@@ -54,18 +54,22 @@ fn common_end(one: &[u8], other: &[u8], most: usize) -> usize {
 
 /// Returns whether two names are equal apart from their case. A hyphen and an underscore are equal.
 /// Equal names give true.
-pub fn differ_by_case(one: &[u8], other: &[u8]) -> bool {
+fn differ_by_case(one: &[u8], other: &[u8]) -> bool {
     one.len() == other.len() && common_start(one, other) == one.len()
 }
 
-/// Returns whether two names are similar: they differ by at most two adjacent bytes, which are
-/// replaced, added or left out, and have at least two other bytes, which are equal. Case does not
-/// count, and a hyphen and an underscore are equal.
-pub fn are_near(one: &[u8], other: &[u8]) -> bool {
+/// Returns the number of bytes that are left of the longer of two names without the longest
+/// beginning and the longest end that both have in common, and `None` if the names are not similar.
+/// Similar names have at most two such bytes, and at least two bytes in common. Case does not
+/// count, and a hyphen and an underscore are equal: names that differ only so give 0.
+pub fn distance(one: &[u8], other: &[u8]) -> Option<usize> {
+    if differ_by_case(one, other) {
+        return Some(0);
+    }
     let start = common_start(one, other);
     let most = one.len().min(other.len()).saturating_sub(start);
     let end = common_end(one, other, most);
     let common = start.saturating_add(end);
-    let longer = one.len().max(other.len());
-    longer.saturating_sub(common) <= MOST_OTHER && common >= LEAST_COMMON
+    let left = one.len().max(other.len()).saturating_sub(common);
+    (left <= MOST_OTHER && common >= LEAST_COMMON).then_some(left)
 }

@@ -10,7 +10,7 @@ use crate::options::{CliOption, Takes, options};
 use crate::refusals::form_advice;
 use dunkelva_messages::error::{Error, Result};
 use dunkelva_messages::names::quoted;
-use dunkelva_messages::near::{are_near, differ_by_case};
+use dunkelva_messages::near::distance;
 use dunkelva_messages::trouble;
 use std::alloc::{AllocError, Global};
 use std::fmt::{Display, Formatter};
@@ -233,17 +233,17 @@ fn is_known(name: &str) -> bool {
     name == "left" || name == "right"
 }
 
-/// Returns the name of an option that is similar to `name`, or `None` if there is none. Prefers an
-/// option that differs from `name` only by case, or by underscores for hyphens.
+/// Returns the name of the option that is most similar to `name` (`distance`), or `None` if no option
+/// is similar. If several options are equally similar, returns the first one.
 pub(crate) fn option_near(name: &str) -> Option<&'static str> {
+    let mut least = usize::MAX;
     let mut near = None;
     for option in options() {
-        let id = option.id.as_bytes();
-        if differ_by_case(id, name.as_bytes()) {
-            return Some(option.id);
-        }
-        if near.is_none() && are_near(id, name.as_bytes()) {
-            near = Some(option.id);
+        if let Some(apart) = distance(option.id.as_bytes(), name.as_bytes()) {
+            if apart < least {
+                least = apart;
+                near = Some(option.id);
+            }
         }
     }
     near

@@ -50,6 +50,8 @@ fn command_advice(rt: &HostRuntime, words: &[&str]) -> Option<&'static str> {
 /// what to give in place of options of other programs.
 const STATUS: &str = "for the status alone send what is printed to /dev/null";
 
+const JSON: &str = "for JSON give --format json";
+
 const OUTPUT: &str = "the report is printed: write > FILE";
 
 const DELIMITER: &str = "for the delimiter give --delimiter";
@@ -76,13 +78,18 @@ const TEXTS: &str = "texts are compared exactly, with case and blanks: convert t
 
 const ORDER: &str = "rows may be in any order; the items of JSON arrays are compared in theirs";
 
+const NAMES: &str = "columns are not renamed: the two files have to have the same names";
+
 const ALIGNED: &str = "for aligned columns give --width N";
 
 /// Options of other programs, each with advice on what to give instead.
-const OTHERS: [(&str, &str); 15] = [
-    ("--json", "for JSON give --format json"),
+const OTHERS: [(&str, &str); 18] = [
+    ("--json", JSON),
+    ("-f", JSON),
+    ("--output-format", JSON),
     ("--quiet", STATUS),
     ("-q", STATUS),
+    ("--fs", DELIMITER),
     ("--sep", DELIMITER),
     ("--separator", DELIMITER),
     ("--delim", DELIMITER),
@@ -105,7 +112,7 @@ const OTHERS: [(&str, &str); 15] = [
 
 /// Options of other programs, each with advice on what to give `dunkelva diff` instead. For
 /// `dunkelva schema` this advice is not given.
-const OTHERS_OF_DIFF: [(&str, &str); 59] = [
+const OTHERS_OF_DIFF: [(&str, &str); 60] = [
     ("--id", KEY),
     ("--on", KEY),
     ("--by", KEY),
@@ -167,10 +174,8 @@ const OTHERS_OF_DIFF: [(&str, &str); 59] = [
         "--no-color",
         "for a report without colours give --color never",
     ),
-    (
-        "--rename",
-        "columns are not renamed: the two files have to have the same names",
-    ),
+    ("--rename", NAMES),
+    ("--map", NAMES),
 ];
 
 /// Returns the part of the argument `word` before its first equals sign, or all of `word` if it has

@@ -15,7 +15,7 @@ use std::alloc::Global;
 fn refuse_key(option: &str, column: &str, keys: &[&[u8]]) -> Result<()> {
     if keys.contains(&column.as_bytes()) {
         return Err(trouble!(
-            "--{option}: {} is a key, and keys are compared exactly",
+            "--{option}: {} is a key, and keys match exactly, or as numbers with --numbers",
             quoted(column)
         ));
     }
