@@ -1,7 +1,8 @@
 -- Prefixes of byte strings, sixteen bytes of which are compared at once.
-use Rattle.std.proofs.Common.{◌≡◌, ◌≢◌, ◌≤◌, ◌<◌, ◌%◌, ◌^◌, ◌&&◌, ◌||◌, ℕ, zero, suc, Bool, true, false, cond, not, eqb, leb, nat_eq, nat_lt, min, List, ◌∷◌, length, take, get_or, map, refl, sym, ap, ◌∙◌, arith, inl, inr}
+use Rattle.std.proofs.Common.{◌≡◌, ◌≢◌, ◌≤◌, ◌<◌, ◌-◌, ◌%◌, ◌^◌, ◌&&◌, ◌||◌, ◌↔◌, ℕ, zero, suc, Bool, true, false, cond, not, eqb, leb, nat_eq, nat_lt, min, List, ◌∷◌, length, take, get_or, map, refl, sym, ap, ◌∙◌, arith, inl, inr}
 use Rattle.std.specs.Cmp.Lexicographic.{slice_cmp}
 use Rattle.std.specs.Int.{bit_at, trailing_zeros}
+use Rattle.std.specs.Int.Bits.{bit_and}
 use Rattle.std.specs.Int.Count.{trailing_of_zero}
 use Rattle.std.specs.Ordering.{nat_cmp, is_lt, ordering_then}
 use Rattle.std.specs.declared.cmp.Ordering.{Ordering}
@@ -12,7 +13,7 @@ use Rattle.std.proofs.lemmas.Bool.{and_from, and_parts, cases_eq, cases_lt, le-l
 use Rattle.std.proofs.lemmas.Bool.Decides.{Decides-eqb, nat_tests, same_from_decides}
 use Rattle.std.proofs.lemmas.Grind.{same_number_lists}
 use Rattle.std.proofs.lemmas.List.{get_or-take, length-take}
-use Rattle.std.proofs.lemmas.Nat.Bits.{bit_at-trailing_zeros, bit_at-zero}
+use Rattle.std.proofs.lemmas.Nat.Bits.{bit_at-lt, bit_at-trailing_zeros, bit_at-zero, bit_at_and, bit_at_ones, bit_at_ones_above, same_from_bits}
 use Rattle.std.proofs.lemmas.Simd.{tops_compared, bit_mask_l, mask_l-mod, mask_l-lt, length-zip2, get_or-zip2}
 use Rattle.std.proofs.lemmas.Slice.Eq.{bytes_eq-Decides}
 use Rattle.polars_arrays_flat.specs.ByteOrder.{bytes_lt}
@@ -33,6 +34,9 @@ unmarked false n e none = refl
 
 same_from : (a b : ℕ) → not (eqb a b) ≡ false → a ≡ b
 same_from a b e = grind (arith, e)
+
+not_apart : (a b : ℕ) → a ≡ b → not (eqb a b) ≡ false
+not_apart a b e = grind (arith, e)
 
 apart_from : (a b : ℕ) → not (eqb a b) ≡ true → a ≢ b
 apart_from a b e same = grind (arith, e, same)
@@ -69,6 +73,9 @@ module _ (xs ys : List ℕ) (left_in : 16 ≤ length xs) (right_in : 16 ≤ leng
           | inl none ↦ absurd (omega (arith, lt, ap (λ n. trailing_zeros w64 n) none ∙ trailing_of_zero 64))
           | inr some ↦ (bit_at-trailing_zeros w64 w (omega arith) below).1
         ]))
+
+    pub same_bit : (i : ℕ) → i < 16 → (bit_at w i ≡ 0) ↔ (get_or xs i 0 ≡ get_or ys i 0)
+    same_bit i lt = (λ none. same_from _ _ (unmarked _ _ (bit i lt) none), λ e. bit i lt ∙ ap (λ b. cond b 1 0) (not_apart _ _ e))
 
   pub mask_is : mask_l (map (top 7) (zip2 (λ a b. cond (not (eqb a b)) 255 0) (take 16 xs) (take 16 ys))) % 18446744073709551616 ≡ mask_l (differing xs ys)
   mask_is =
@@ -147,3 +154,43 @@ block_equal k n m xs ys left_few right_few left_in right_in first =
       | inl h ↦ absurd (first.apart (omega (arith, h, left_few)) (sym (get_or-take n xs k 0 h) ∙ ap (λ (zs : List ℕ). get_or zs k 0) e ∙ get_or-take m ys k 0 (omega (arith, h, one_length e))))
       | inr h ↦ h
     ]
+
+-- ---- a block whose first m bytes count, those that the lowest m bits of a word select
+module _ (w m ones : ℕ) (are : ones ≡ 2 ^ m - 1) where
+  -- a bit of a byte that counts is 0 if the selected bits are
+  selected : bit_and w ones ≡ 0 → (i : ℕ) → i < m → bit_at w i ≡ 0
+  selected none i lt =
+      omega (arith, bit_at_and w ones i, ap (λ n. bit_at n i) none, bit_at-zero i, ap (λ n. bit_at n i) are, bit_at_ones m i lt, bit_at-lt w i)
+
+  -- and if all of these are 0, nothing is selected
+  none_selected : ((i : ℕ) → i < m → bit_at w i ≡ 0) → bit_and w ones ≡ 0
+  none_selected none = same_from_bits (bit_and w ones) 0 (λ i. elim (cases_lt i m) [
+    | inl h ↦ omega (arith, bit_at_and w ones i, none i h, bit_at-zero i)
+    | inr h ↦ omega (arith, bit_at_and w ones i, ap (λ n. bit_at n i) are, bit_at_ones_above m i h, bit_at-zero i)
+  ])
+
+  pub selected_equal : (n : ℕ) (xs ys : List ℕ) → n ≤ length xs → 16 ≤ length ys → m ≤ 16
+      → ((i : ℕ) → i < 16 → (bit_at w i ≡ 0) ↔ (get_or xs i 0 ≡ get_or ys i 0))
+      → (nat_eq n m && nat_eq (bit_and w ones) 0) ≡ bytes_eq (take n xs) (take m ys)
+  selected_equal n xs ys left_in right_in few same =
+      same_from_decides (nat_eq n m && nat_eq (bit_and w ones) 0) (bytes_eq (take n xs) (take m ys)) (
+        λ t. let both = and_parts (nat_eq n m) (nat_eq (bit_and w ones) 0) t in
+            whole ((Decides-eqb n m).0 both.0) ((Decides-eqb (bit_and w ones) 0).0 both.1),
+        λ e. and_from (nat_eq n m) (nat_eq (bit_and w ones) 0) ((Decides-eqb n m).1 (one_length e))
+            ((Decides-eqb (bit_and w ones) 0).1 (none_selected (λ i lt. (same i (omega (arith, lt, few))).1 (at e i lt)))),
+      )
+      (bytes_eq-Decides (take n xs) (take m ys))
+    where
+      one_length : take n xs ≡ take m ys → n ≡ m
+      one_length e = omega (arith, left_in, right_in, few, length-take n xs, length-take m ys, ap (λ (zs : List ℕ). length zs) e)
+
+      at : take n xs ≡ take m ys → (i : ℕ) → i < m → get_or xs i 0 ≡ get_or ys i 0
+      at e i lt = sym (get_or-take n xs i 0 (omega (arith, lt, one_length e))) ∙ ap (λ (zs : List ℕ). get_or zs i 0) e ∙ get_or-take m ys i 0 lt
+
+      whole : n ≡ m → bit_and w ones ≡ 0 → take n xs ≡ take m ys
+      whole long none =
+          same_number_lists (take n xs) (take m ys) (omega (arith, left_in, right_in, few, long, length-take n xs, length-take m ys))
+          (λ i lt.
+          let below : i < n = omega (arith, lt, left_in, length-take n xs) in
+          let inside : i < m = omega (arith, below, long) in
+          get_or-take n xs i 0 below ∙ (same i (omega (arith, inside, few))).0 (selected none i inside) ∙ sym (get_or-take m ys i 0 inside))

@@ -1,4 +1,4 @@
--- Raw bits, joined with two validities.
+-- Raw bits, joined with two masks.
 use Rattle.std.specs.Prelude.{◌≡◌, ◌<◌, ℕ, Bool, true, false, not, List, Option, length}
 use Rattle.std.specs.Prelude.{slice_index_or}
 use Rattle.polars_arrays_flat.specs.Validity.{is_present}
@@ -17,7 +17,7 @@ joined_bit equal raw true false = not equal
 joined_bit equal raw false true = not equal
 joined_bit equal raw false false = equal
 
--- raw bits joined with the presence of both rows; `equal` is the bit that means "equal"
+-- raw bits joined with the masks `left` and `right`; `equal` is the bit that means "equal"
 pub record Joined (equal : Bool) (left right : Option (List Bool)) (raw bits : List Bool) :
     Type 0 where
   pub size : length bits ≡ length raw

@@ -7,22 +7,23 @@ use Rattle.polars_arrays_flat.specs.Row.{Row, Int, Truth, Bytes}
 use Rattle.polars_arrays_flat.specs.StoredRows.{row}
 use Rattle.polars_arrays_flat.specs.Validity.{is_present}
 
--- numbers as whole numbers, false before true, bytes lexicographically, a proper prefix first
+-- the first row is less: numbers as whole numbers, false before true, bytes lexicographically, a
+-- proper prefix first; false for all other rows
 abbrev pub row_less : Row → Row → Bool
 row_less (Int m) (Int n) = int_lt m n
 row_less (Truth a) (Truth b) = not a && b
 row_less (Bytes xs) (Bytes ys) = is_lt (slice_cmp nat_cmp xs ys)
 row_less x y = false
 
--- the other row is not less
+-- the second row is not less than the first
 abbrev pub row_at_most : Row → Row → Bool
 row_at_most x y = not (row_less y x)
 
--- the other row is less
+-- the second row is less than the first
 abbrev pub row_greater : Row → Row → Bool
 row_greater x y = row_less y x
 
--- the row is not less
+-- the first row is not less than the second
 abbrev pub row_at_least : Row → Row → Bool
 row_at_least x y = not (row_less x y)
 

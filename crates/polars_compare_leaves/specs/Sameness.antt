@@ -14,7 +14,7 @@ same_leaf (Bytes xs) (Bytes ys) = bytes_eq xs ys
 same_leaf x y = false
 
 abbrev mutual
-  -- two rows are the same, part by part: null as null alone, and leaves if they `agree`
+  -- two rows are the same, part by part: two nulls are, and two leaves of one sort if they `agree`
   pub same : (Row → Row → Bool) → Row → Row → Bool
   same agree Null Null = true
   same agree (Int m) (Int n) = agree (Int m) (Int n)

@@ -26,7 +26,7 @@ pub trait TruthComparison {
     // The comparison as a relation of two rows.
     ghost rows: { Row → Row → Bool };
 
-    /// Returns whether the comparison holds for two truth values.
+    /// Returns whether the comparison holds for `left` and `right`.
     fn compare(&self, left: bool, right: bool) -> bool
         ensures { result ≡ rows (Truth left) (Truth right) };
 
@@ -167,8 +167,8 @@ pub fn compare_truth_windows<E: TruthComparison>(
     comparison.compare_bits(alloc, &left, &right)
 }
 
-/// Returns a bit for each stored row: 1 if the comparison holds for the row and the truth value
-/// `right`. The error is `Memory`.
+/// Returns a bit for each stored row of `left`: 1 if the comparison holds for the row and the truth
+/// value `right`. The error is `Memory`.
 pub fn compare_truth<E: TruthComparison>(
     alloc: Global,
     comparison: &E,

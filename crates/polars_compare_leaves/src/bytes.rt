@@ -1,6 +1,7 @@
 //! Comparisons of stored byte strings. Validities are not read.
 
-ghost use Rattle.std.specs.Prelude.{◌≡◌, ◌+◌, ◌^◌, ◌<◌, ◌≤◌, Bool, length, map, take, MatchResult};
+ghost use Rattle.std.specs.Prelude.{◌≡◌, ◌+◌, ◌-◌, ◌^◌, ◌<◌, ◌≤◌, Bool, length, map, take};
+ghost use Rattle.std.specs.Prelude.{MatchResult};
 ghost use Rattle.std.specs.Simd.Lanes.{zip2};
 ghost use Rattle.polars_arrays_bits.specs.Errors.{IsMemory};
 ghost use Rattle.polars_arrays_flat.specs.Row.{Row, Bytes};
@@ -13,7 +14,9 @@ ghost use Rattle.polars_compare_leaves.specs.Sameness.{other_row, same_row};
 use polars_arrays_bits::bitmap::Bitmap;
 use polars_arrays_bits::error::ComputeError;
 use polars_arrays_bits::packing::TruthValues;
-use polars_arrays_flat::byte_blocks::{BLOCK_BYTES, beginnings_equal, beginnings_less, block_of};
+use polars_arrays_flat::byte_blocks::{
+    BLOCK_BYTES, beginning_equals_block, beginnings_equal, beginnings_less, block_of, lowest_ones,
+};
 use polars_arrays_flat::byte_equality::bytes_equal;
 use polars_arrays_flat::byte_order::bytes_less;
 use polars_arrays_flat::byte_rows::ByteRows;
@@ -23,18 +26,18 @@ use polars_arrays_numbers::comparison::{
 use std::alloc::Global;
 
 /// A comparison of two byte strings: `Equal`, `Unequal`, `Less`, `LessOrEqual`, `Greater` or
-/// `GreaterOrEqual`. Byte strings are ordered byte by byte.
+/// `GreaterOrEqual`. Byte strings are ordered lexicographically.
 pub trait ByteComparison {
     // The comparison as a relation of two rows.
     ghost rows: { Row → Row → Bool };
 
-    /// Returns whether the comparison holds for two byte strings.
+    /// Returns whether the comparison holds for `left` and `right`.
     fn compare(&self, left: &[u8], right: &[u8]) -> bool
         ensures { result ≡ rows (Bytes left.now) (Bytes right.now) };
 
-    /// Returns whether the comparison holds for two byte strings. Loops that compare many left
-    /// strings with one right string call this form, which may be faster in such a loop than
-    /// `compare`.
+    /// Returns whether the comparison holds for `left` and `right`, like `compare`. Loops that
+    /// compare many left strings with one right string call this method, since it may be faster
+    /// there. The default calls `compare`.
     #[inline(always)]
     fn compare_constant(&self, left: &[u8], right: &[u8]) -> bool
         ensures { result ≡ rows (Bytes left.now) (Bytes right.now) }
@@ -43,13 +46,29 @@ pub trait ByteComparison {
     }
 
     /// Returns whether the comparison holds for the first `n` bytes of `left` and the first `m`
-    /// bytes of `right`. The bytes behind them do not change the result. They are there for speed:
-    /// if `n` and `m` are at most 16 and both slices have at least 16 bytes, each side is loaded as
-    /// one block of 16 bytes.
+    /// bytes of `right`. The bytes after these don't change the result, but may save time: if `n`
+    /// and `m` are at most 16 and both slices have at least 16 bytes, each side is loaded as one
+    /// block of 16 bytes.
     fn compare_beginnings(&self, left: &[u8], n: usize, right: &[u8], m: usize) -> bool
         requires left_in { n ≤ length left.now }
         requires right_in { m ≤ length right.now }
         ensures { result ≡ rows (Bytes (take n left.now)) (Bytes (take m right.now)) };
+
+    /// Returns whether the comparison holds for the first `n` bytes of `left` and the first `m`
+    /// bytes of `block`. The lowest `m` bits of `inside` are 1, and all others are 0. Loops that
+    /// compare many left strings with one short right string call this method, since it may be
+    /// faster there. The default calls `compare_beginnings`.
+    #[inline(always)]
+    fn compare_block(&self, left: &[u8], n: usize, block: &[u8], m: usize, inside: u64) -> bool
+        requires left_in { n ≤ length left.now }
+        requires block_in { 16 ≤ length block.now }
+        requires few { m ≤ 16 }
+        requires inside { inside ≡ 2 ^ m - 1 }
+        ensures { result ≡ rows (Bytes (take n left.now)) (Bytes (take m block.now)) }
+    {
+        let _ = inside;
+        self.compare_beginnings(left, n, block, m)
+    }
 }
 
 impl ByteComparison for Equal {
@@ -69,6 +88,11 @@ impl ByteComparison for Equal {
     fn compare_beginnings(&self, left: &[u8], n: usize, right: &[u8], m: usize) -> bool {
         beginnings_equal(left, n, right, m)
     }
+
+    #[inline(always)]
+    fn compare_block(&self, left: &[u8], n: usize, block: &[u8], m: usize, inside: u64) -> bool {
+        beginning_equals_block(left, n, block, m, inside)
+    }
 }
 
 impl ByteComparison for Unequal {
@@ -87,6 +111,11 @@ impl ByteComparison for Unequal {
     #[inline(always)]
     fn compare_beginnings(&self, left: &[u8], n: usize, right: &[u8], m: usize) -> bool {
         !beginnings_equal(left, n, right, m)
+    }
+
+    #[inline(always)]
+    fn compare_block(&self, left: &[u8], n: usize, block: &[u8], m: usize, inside: u64) -> bool {
+        !beginning_equals_block(left, n, block, m, inside)
     }
 }
 
@@ -146,8 +175,8 @@ impl ByteComparison for GreaterOrEqual {
     }
 }
 
-// The results of a comparison of `n` pairs of byte strings: string `a + i` of the left array and
-// string `b + i` of the right one.
+// The results of a comparison for each `i` below `n`: of byte string `a + i` of the left array and
+// byte string `b + i` of the right one.
 #[derive(Drop)]
 struct StringPairs<'a, L: ByteRows, R: ByteRows, E> {
     comparison: &'a E,
@@ -203,7 +232,7 @@ pub fn compare_byte_windows<L: ByteRows, R: ByteRows, E: ByteComparison>(
         (window a n (byte_slots (L.strings left.now)))
         (window b n (byte_slots (R.strings right.now)))) IsMemory }
 {
-    // Neither call has an effect at run time. They tell the proof that indices fit in 64 bits.
+    // For the proof: both lengths fit in 64 bits, so the indices don't overflow.
     let _left_count = left.count();
     let _right_count = right.count();
     let pairs = StringPairs {
@@ -247,13 +276,17 @@ impl<'a, L: ByteRows, E: ByteComparison> TruthValues for StringsAgainst<'a, L, E
 }
 
 // The results of a comparison of each byte string of an array with the first `m` bytes of `block`.
+// The lowest `m` bits of `inside` are 1.
 #[derive(Drop)]
 struct StringsOnBlock<'a, L, E> {
     comparison: &'a E,
     left: &'a L,
     block: &'a [u8],
     m: usize,
-    ghost block_in: { m ≤ length block.now },
+    inside: u64,
+    ghost block_in: { 16 ≤ length block.now },
+    ghost few: { m ≤ 16 },
+    ghost ones: { inside ≡ 2 ^ m - 1 },
 }
 
 impl<'a, L: ByteRows, E: ByteComparison> TruthValues for StringsOnBlock<'a, L, E> {
@@ -269,7 +302,7 @@ impl<'a, L: ByteRows, E: ByteComparison> TruthValues for StringsOnBlock<'a, L, E
     fn value(&self, i: usize) -> bool {
         let (left, n) = self.left.bytes_on(i);
         self.comparison
-            .compare_beginnings(left, n, self.block, self.m)
+            .compare_block(left, n, self.block, self.m, self.inside)
     }
 
     #[inline(always)]
@@ -278,9 +311,9 @@ impl<'a, L: ByteRows, E: ByteComparison> TruthValues for StringsOnBlock<'a, L, E
     }
 }
 
-/// Returns a bit for each stored row: 1 if the comparison holds for the row and the byte string
-/// `right`. If `right` has at most 16 bytes, it is copied to a block of 16 bytes, so that it is
-/// compared with a short row as one block. The error is `Memory`.
+/// Returns a bit for each stored row of `left`: 1 if the comparison holds for the row and the byte
+/// string `right`. If `right` has at most 16 bytes, it is copied to a block of 16 bytes, so that it
+/// is compared with a short row as one block. The error is `Memory`.
 pub fn compare_bytes<L: ByteRows, E: ByteComparison>(
     alloc: Global,
     comparison: &E,
@@ -304,6 +337,7 @@ pub fn compare_bytes<L: ByteRows, E: ByteComparison>(
         left,
         block: &block,
         m: right.len(),
+        inside: lowest_ones(right.len()),
     };
     Bitmap::from_values(alloc, &strings)
 }

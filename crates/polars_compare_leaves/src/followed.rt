@@ -1,4 +1,5 @@
-//! The trait `FollowedKernel`: comparisons of views that count the rows looked up in buffers.
+//! The trait `FollowedKernel`: comparisons of views that count the pairs of rows looked up in
+//! buffers.
 
 ghost use Rattle.std.specs.Prelude.{◌≡◌, ◌≤◌, ◌+◌, length, IfOk, MatchResult};
 ghost use Rattle.polars_arrays_bits.specs.Errors.{IsMemory};
@@ -18,16 +19,16 @@ use polars_arrays_views::binary_view::BinaryViewArray;
 use polars_arrays_views::text_view::Utf8ViewArray;
 use std::alloc::Global;
 
-/// Comparisons of arrays of views that count the pairs of rows whose bytes they look up in a
-/// buffer, null or not. Each such pair adds 1 to the counter.
+/// Comparisons of arrays of views that add 1 to the counter `steps` for each pair of rows whose
+/// bytes they look up in a buffer. Null rows are compared and counted by their stored bytes.
 ///
 /// Equality looks up the bytes of two rows if their lengths are equal and above 12, and their first
-/// four bytes are equal. Order looks up the bytes if their first four bytes, padded with zeros, are
-/// equal, and at least one row is longer than 12 bytes. Validities are not read. The error is
-/// `Memory`; the counter may have increased by then.
+/// four bytes are equal. Order looks up the bytes of two rows if their first four bytes, padded
+/// with zeros, are equal, and at least one row is longer than 12 bytes. Validities are not read.
+/// The error is `Memory`; the counter may have increased by then.
 pub trait FollowedKernel: ByteRows + Sized {
     /// Returns a bit for each index `i`: 1 if the stored row `i` of `self` is equal to the stored
-    /// row `i` of `other`.
+    /// row `i` of `other`. Both arrays have the same length.
     fn tot_eq_kernel_followed(
         &self,
         alloc: Global,
@@ -45,7 +46,7 @@ pub trait FollowedKernel: ByteRows + Sized {
         ensures kept { steps.old ≤ steps.new };
 
     /// Returns a bit for each index `i`: 1 if the stored row `i` of `self` is less than the stored
-    /// row `i` of `other`.
+    /// row `i` of `other`. Both arrays have the same length.
     fn tot_lt_kernel_followed(
         &self,
         alloc: Global,

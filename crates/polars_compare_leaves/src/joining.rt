@@ -32,9 +32,9 @@ pub trait RawValues {
     fn into_bitmap(self, alloc: Global) -> Result<Bitmap, ComputeError>
         ensures { MatchResult result (λ bits. bits ≡ values self) IsMemory };
 
-    /// Returns a bitmap of `(q & l & r) | !(l | r)` for each truth value `q` and the bits `l` and
-    /// `r` of the masks at its index. If `q` says that two rows are equal, and masks say which rows
-    /// are present, this is missing equality. The error is `Memory`.
+    /// Returns a bit for each truth value `q` and the bits `l` of `left` and `r` of `right` at its
+    /// index: `(q & l & r) | !(l | r)`. This is missing equality if `q` is 1 for equal rows, and
+    /// `l` and `r` are 1 for present rows. The error is `Memory`.
     fn merge_eq(
         self,
         alloc: Global,
@@ -46,9 +46,9 @@ pub trait RawValues {
         ensures { MatchResult result
             (λ bits. bits ≡ zip3 merged_eq (values self) left.now right.now) IsMemory };
 
-    /// Returns a bitmap of `(q & l & r) | (l ^ r)` for each truth value `q` and the bits `l` and
-    /// `r` of the masks at its index. If `q` says that two rows are unequal, and masks say which
-    /// rows are present, this is missing inequality. The error is `Memory`.
+    /// Returns a bit for each truth value `q` and the bits `l` of `left` and `r` of `right` at its
+    /// index: `(q & l & r) | (l ^ r)`. This is missing inequality if `q` is 1 for unequal rows, and
+    /// `l` and `r` are 1 for present rows. The error is `Memory`.
     fn merge_ne(
         self,
         alloc: Global,
@@ -61,7 +61,7 @@ pub trait RawValues {
             (λ bits. bits ≡ zip3 merged_ne (values self) left.now right.now) IsMemory };
 }
 
-// Changes the bitmap in place if it owns its words, and a copy of it otherwise.
+// Changes the words in place if `Bitmap::into_mut` can reuse them, and a copy of them otherwise.
 impl RawValues for Bitmap {
     ghost values = { λ bits. bits };
 
@@ -124,8 +124,9 @@ impl<V: TruthValues> RawValues for &V {
     }
 }
 
-// Combines raw truth values with the mask of one side. All rows of the other side are present. The
-// error is `Memory`.
+// Combines the truth values `raw` with the mask of one side, and returns the bits of missing
+// equality or inequality, as `relation` says. All rows of the other side are present. The error is
+// `Memory`.
 fn join_one<R: RawValues>(
     alloc: Global,
     relation: Relation,
@@ -147,7 +148,8 @@ fn join_one<R: RawValues>(
     Ok(bits.freeze())
 }
 
-// Combines raw truth values with the masks of both sides. The error is `Memory`.
+// Combines the truth values `raw` with the masks `left` and `right`, and returns the bits of
+// missing equality or inequality, as `relation` says. The error is `Memory`.
 #[inline(always)]
 fn join_both<R: RawValues>(
     alloc: Global,
@@ -167,10 +169,10 @@ fn join_both<R: RawValues>(
     }
 }
 
-/// Combines the raw truth values of a comparison with the masks of both sides, and returns the bits
-/// of missing equality or inequality. `relation` says which of the two was compared. A side without
-/// a mask has no nulls. If both rows are present, their bit stays the same. Two nulls are equal,
-/// and a null and a present row are not. The error is `Memory`.
+/// Combines the truth values `raw` of a comparison with the masks `left` and `right`, and returns
+/// the bits of missing equality or inequality. `relation` says what a 1 means, in `raw` and in the
+/// result. A side without a mask has no nulls. If both rows are present, their bit stays the same.
+/// Two nulls are equal, and a null and a present row are not. The error is `Memory`.
 #[inline(always)]
 pub fn join_masks<R: RawValues>(
     alloc: Global,

@@ -69,8 +69,8 @@ pub fn compare_few_numbers<T: NativeType, E: RowComparison<T>>(
     compare_few(comparison, &left[a..a + n], &right[b..b + n])
 }
 
-/// Compares the stored rows of two windows, and clears the bits of rows for which the comparison
-/// doesn't hold. Bit `i` is that of row `a + i` of the left array and row `b + i` of the right one.
+/// Clears each bit `i` of `bits` for which the comparison doesn't hold for the stored row `a + i`
+/// of the left array and the stored row `b + i` of the right one. All other bits stay the same.
 /// Does not allocate.
 pub fn and_number_windows<T: NativeType, E: RowComparison<T>>(
     bits: &mut MutableBitmap,
@@ -119,8 +119,8 @@ pub fn join_numbers<T: NativeType, E: RowComparison<T>>(
     join_masks(alloc, relation, &pairs, left_mask.bits(), right_mask.bits())
 }
 
-/// Returns a bit for each stored row: 1 if the comparison holds for the row and the number `right`.
-/// The error is `Memory`.
+/// Returns a bit for each stored row of `left`: 1 if the comparison holds for the row and the
+/// number `right`. The error is `Memory`.
 pub fn compare_number<T: NativeType, E: RowComparison<T>>(
     alloc: Global,
     comparison: &E,

@@ -31,12 +31,12 @@ pub trait ViewComparison {
     // True for two byte strings whose comparison reads a buffer.
     ghost follows: { List ℕ → List ℕ → Bool };
 
-    // True for two views for which the guess is right.
+    // True for two views for which `guess` is sure to be right.
     ghost sure: { List ℕ → List ℕ → Bool };
 
     /// Returns whether the comparison holds for row `i` of the left array and row `j` of the right
-    /// one. Masked rows are compared by their stored bytes. The counter increases by one if a
-    /// buffer is read.
+    /// one. Masked rows are compared by their stored bytes. `steps` increases by one if a buffer is
+    /// read.
     fn compare(
         &self,
         left: &BinaryViewArray,
@@ -54,15 +54,16 @@ pub trait ViewComparison {
             ≡ steps.old + (if follows (slice_index_or (view_strings left.now) i [])
             (slice_index_or (view_strings right.now) j []) then 1 else 0) };
 
-    /// Guesses from two views, without a buffer, whether the comparison holds for their rows. If
-    /// `is_sure` is true for the two views, the guess is right; otherwise it may be wrong.
+    /// Guesses whether the comparison holds for the rows of the views `v` and `w`, without reading
+    /// a buffer. If `is_sure` is true for the two views, the result is right; otherwise it may be
+    /// wrong.
     fn guess(&self, v: &View, w: &View) -> bool
         ensures { (buffers others : List (List ℕ)) → GoodView buffers v.now → GoodView others w.now
             → IsTrue (sure v.now w.now) → result
             ≡ rows (Bytes (row_bytes buffers v.now)) (Bytes (row_bytes others w.now)) };
 
-    /// Returns whether the guess for two views is sure to be right. If the result is `true`, the
-    /// comparison of the two rows reads no buffer. The default is `false`.
+    /// Returns whether `guess` is sure to be right for two views. If so, `compare` reads no buffer
+    /// for their rows. The default returns `false`.
     #[inline(always)]
     fn is_sure(&self, _v: &View, _w: &View) -> bool
         ensures sure { IsTrue result → IsTrue (sure _v.now _w.now) }
@@ -73,8 +74,8 @@ pub trait ViewComparison {
         false
     }
 
-    /// Returns whether the comparison holds for row `i` and the byte string `right`. A masked row
-    /// is compared by its stored bytes.
+    /// Returns whether the comparison holds for row `i` of `left` and the byte string `right`. A
+    /// masked row is compared by its stored bytes.
     fn compare_bytes(&self, left: &BinaryViewArray, i: usize, right: &ScalarRow) -> bool
         requires { i < length left.now.views }
         ensures { result

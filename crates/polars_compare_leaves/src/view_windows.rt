@@ -24,9 +24,9 @@ use polars_arrays_views::scalar::ScalarRow;
 use polars_arrays_views::view::View;
 use std::alloc::Global;
 
-// The results of a comparison of `n` pairs of rows: row `a + i` of the left array and row `b + i`
-// of the right one. The slices of views are stored next to the arrays, so that a loop doesn't fetch
-// them for each row.
+// The results of a comparison for each `i` below `n`: of row `a + i` of the left array and row
+// `b + i` of the right one. The slices of views are stored next to the arrays, so that a loop
+// doesn't fetch them for each row.
 #[derive(Drop)]
 struct ViewPairs<'a, E> {
     comparison: &'a E,
@@ -122,7 +122,7 @@ pub fn compare_view_windows<E: ViewComparison>(
         ≡ steps.old + followed E.follows (view_strings left.now) (view_strings right.now) a b n) }
     ensures kept { steps.old ≤ steps.new }
 {
-    // Neither call has an effect at run time. They tell the proof that indices fit in 64 bits.
+    // For the proof: both lengths fit in 64 bits, so the indices don't overflow.
     let _left_len = left.len();
     let _right_len = right.len();
     let pairs = ViewPairs {
@@ -166,8 +166,8 @@ impl<'a, E: ViewComparison> TruthValues for ViewsAgainst<'a, E> {
     }
 }
 
-/// Returns a bit for each stored row: 1 if the comparison holds for the row and the byte string
-/// `right`. The error is `Memory`.
+/// Returns a bit for each stored row of `left`: 1 if the comparison holds for the row and the byte
+/// string `right`. The error is `Memory`.
 pub fn compare_view_bytes<E: ViewComparison>(
     alloc: Global,
     comparison: &E,
