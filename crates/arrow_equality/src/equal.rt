@@ -32,7 +32,7 @@ fn compare_arrays(alloc: Global, left: &AnyArray, right: &AnyArray) -> Result<Co
     compare(alloc, left, right)
 }
 
-/// Builds two lent arrays from their parts, and compares them row by row. Fails with `Parts` if the
+/// Builds two arrays from the parts `left` and `right`, and compares them row by row. Fails with `Parts` if the
 /// parts make no array, with `Types` if the two arrays differ in type or in length, and with
 /// `Memory` if an allocation fails.
 fn compare_parts(alloc: Global, left: &[Part<'_>], right: &[Part<'_>]) -> Result<Compared, Refused>

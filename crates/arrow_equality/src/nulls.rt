@@ -35,8 +35,8 @@ fn nulls_of(alloc: Global, array: &AnyArray) -> Result<Bitmap, ComputeError>
     Ok(bits.freeze())
 }
 
-/// Builds a lent array from its parts, and returns a bit for each row, 1 if the row is null. Fails
-/// with `Parts` if the parts make no array, and with `Memory` if an allocation fails.
+/// Builds an array from `parts`, and returns a bit for each row, 1 if the row is null. Fails with
+/// `Parts` if the parts make no array, and with `Memory` if an allocation fails.
 fn part_nulls(alloc: Global, parts: &[Part<'_>]) -> Result<Bitmap, Refused>
     ensures bits { IfOk result (λ bits. bits
         ≡ null_bits (rows_of_parts parts.now).row (rows_of_parts parts.now).len) }

@@ -46,8 +46,8 @@ impl Timed for Truths {
     }
 }
 
-// Runs the kernel with the number `kernel` `repeats` times, on the two pairs of arrays in
-// `operands` in turn, and returns the checksum, or 0 if there is no such kernel.
+// Runs the kernel with the number `kernel` on the two pairs of arrays in `operands` in turn,
+// `repeats` times in all. Returns the checksum of the results, or 0 if there is no such kernel.
 fn time_pair(alloc: Global, operands: (&Truths, &Truths), kernel: u32, repeats: usize) -> u64 {
     by_number!(
         kernel,

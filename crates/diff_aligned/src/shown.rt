@@ -90,7 +90,8 @@ fn push_shown(out: &mut Vec<char>, c: char) -> Result<(), AllocError>
     Ok(())
 }
 
-/// Appends the characters of `bytes`, read as UTF-8. Hidden characters become JSON escapes.
+/// Appends the characters of `bytes`, read as UTF-8. Hidden characters become JSON escapes, and
+/// invalid UTF-8 becomes U+FFFD.
 #[tactic(auto, unfolding(crate::specs::Shown::text_of))]
 pub(crate) fn push_text(out: &mut Vec<char>, bytes: &[u8]) -> Result<(), AllocError>
     ensures { OnOk result (out.new.items ≡ out.old.items ++ text_of bytes.now) }

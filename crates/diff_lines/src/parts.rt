@@ -1,4 +1,5 @@
-//! Looks up members of a JSON line.
+//! Looks up members of a JSON line. In contracts `HasNumbers` says that each number in a value is
+//! kept as a valid JSON number, as all values that were parsed are.
 
 ghost use Rattle.std.specs.Prelude.{◌≡◌, IfSome, option_and_then, option_map};
 ghost use Rattle.json.specs.Find.{as_array, as_object, get};

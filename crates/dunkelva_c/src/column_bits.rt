@@ -37,8 +37,9 @@ fn reduce_numbers<T: BitNumber + UniqueNumber>(
     Ok(whole(reduce_bits(operator, &column)))
 }
 
-// Joins the numbers of a part's present rows bit by bit, at the type of its kind. Fails with
-// `NotServed` if the part has no numbers of 8 to 64 bits, and as `reduce_numbers` does.
+// Joins the numbers of a part's present rows bit by bit with `operator`. The numbers are of the
+// type that the part's kind stands for. Returns `None` if no row is present. Fails with `NotServed`
+// if the part has no numbers of 8 to 64 bits, and as `reduce_numbers` does.
 fn reduce_part(alloc: Global, operator: BitOperator, part: &Part<'_>) -> Result<Option<i128>, Fault>
     ensures bits { IfOk result (IsReduction operator part.now) }
     ensures refused { IfErr result (IsTrueFault part.now) }

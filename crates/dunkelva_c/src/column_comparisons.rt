@@ -47,9 +47,9 @@ fn compare_numbers<T: NativeType>(
     Ok(bits)
 }
 
-// Compares two parts, row by row, at the type of their kind. Fails with `Types` if they differ in
-// kind or in length, with `NotServed` if they are not numbers of 8 to 64 bits, and as
-// `compare_numbers` does.
+// Compares two parts, row by row, as numbers of the type that their kind stands for. Fails with
+// `Types` if they differ in kind or in length, with `NotServed` if they are not numbers of 8 to 64
+// bits, and as `compare_numbers` does.
 fn compare_parts(
     alloc: Global,
     test: Test,

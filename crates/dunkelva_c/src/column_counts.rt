@@ -14,9 +14,9 @@ use arrow_columns::counting::Counting;
 use arrow_parts::part::{Part, PartKind};
 use std::alloc::Global;
 
-// Counts the bits that `counting` selects in each row of a part, at the type of its kind, and
-// writes the counts into `counts`. Fails with `NotServed` if the part has no numbers of 8 to 64
-// bits, and as `count_numbers` does.
+// Counts the bits that `counting` selects in each row of a part, and writes the counts into
+// `counts`. The rows are numbers of the type that the part's kind stands for. Fails with
+// `NotServed` if the part has no numbers of 8 to 64 bits, and as `count_numbers` does.
 fn count_part(
     alloc: Global,
     counting: Counting,

@@ -39,8 +39,9 @@ fn ends_of<T: UniqueNumber>(alloc: Global, part: &Part<'_>, values: &[T]) -> Res
     Ok(whole_pair(min_max(&column)))
 }
 
-// Returns the least and the greatest number of a part's present rows, at the type of its kind.
-// Fails with `NotServed` if the part has no numbers of 8 to 64 bits, and as `ends_of` does.
+// Returns the least and the greatest number of a part's present rows, or `None` if no row is
+// present. The numbers are of the type that the part's kind stands for. Fails with `NotServed` if
+// the part has no numbers of 8 to 64 bits, and as `ends_of` does.
 fn part_ends(alloc: Global, part: &Part<'_>) -> Result<Ends, Fault>
     ensures ends { IfOk result (AreEnds (number_rows_of part.now)) }
     ensures refused { IfErr result (IsTrueFault part.now) }

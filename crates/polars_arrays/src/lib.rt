@@ -1,7 +1,7 @@
-//! Re-exports the modules of the crates of arrays, so that a caller depends on this crate alone.
-//! Items have paths such as `polars_arrays::primitive::PrimitiveArray`, whichever of these crates
-//! defines them:
-//! - `polars_arrays_numbers`: the number types, their comparisons and the counter;
+//! Re-exports modules of the crates of arrays, so that a caller depends on this crate alone. Items
+//! have paths such as `polars_arrays::primitive::PrimitiveArray`, whichever crate defines them. The
+//! crates are
+//! - `polars_arrays_numbers`: types of numbers, offsets and keys, comparisons, the counter `Steps`;
 //! - `polars_arrays_bits`: packed bits, buffers and errors;
 //! - `polars_arrays_flat`: types, and arrays of numbers and of truth values;
 //! - `polars_arrays_bytes`: arrays of byte strings and of texts;

@@ -10,7 +10,7 @@ pub record Elements (A : Type 0) : Type 0 where
   pub items : List A
   pub owned : Bool
 
--- coded as the pair of the two
+-- the code of `Elements`: the pair of its two fields
 abbrev pub elements_code : {A : Type 0} → Coded A → Coded (Elements A)
 elements_code code =
     code_by (List _ × Bool) (coded× (coded_list code) coded_bool) (λ b. (b.items, b.owned))
@@ -21,7 +21,7 @@ abbrev pub stored : {A : Type 0} → Store A → List A
 stored (Owned elements) = elements.items
 stored (Shared elements) = rc_slice_items elements
 
--- whether a vector holds the elements
+-- true if a vector holds the elements, false if a shared slice does
 abbrev pub is_vector : {A : Type 0} → Store A → Bool
 is_vector (Owned elements) = true
 is_vector (Shared elements) = false

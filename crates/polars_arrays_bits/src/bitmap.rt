@@ -18,9 +18,8 @@ use polars_arrays_words::words::{WORD_BITS, bit_from, filled_word, place_of};
 use std::alloc::Global;
 use std::marker::Model;
 
-/// A list of truth values, packed into 64-bit words in the Arrow layout: the first value is the
-/// lowest bit. The bits can't be written. Clones of a shared bitmap use the same words (see
-/// `share`).
+/// A list of truth values, packed into 64-bit words, lowest bit first (the Arrow layout). The bits
+/// can't be written. Clones of a shared bitmap use the same words (see `share`).
 #[derive(Drop)]
 pub struct Bitmap {
     // bits before `at` and from `at + len` on are arbitrary

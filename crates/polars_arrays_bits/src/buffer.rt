@@ -10,7 +10,8 @@ use std::alloc::Global;
 use std::marker::Model;
 use std::rc::RcSlice;
 
-/// The memory of a buffer: a vector that only this buffer uses, or a slice that its clones use too.
+/// The memory of a buffer: a vector that only this buffer uses, or a slice that clones of the
+/// buffer use too.
 #[derive(Drop)]
 enum Store<T: Copy> {
     Owned(Vec<T>),
@@ -164,8 +165,8 @@ impl<T: Copy> Buffer<T> {
     }
 
     /// Converts to a buffer whose memory is shared: later clones use the same memory instead of
-    /// copying the elements. No element is moved. Succeeds always if the buffer is shared already.
-    /// Otherwise the error is `Memory`.
+    /// copying the elements. No element is moved. The error is `Memory`, which does not occur if
+    /// the buffer is shared already.
     pub fn share(self, _alloc: Global) -> Result<Buffer<T>, ComputeError>
         ensures shared { MatchResult result
             (λ shared. shared ≡ record { items = self.items; owned = false }) IsMemory }

@@ -33,7 +33,7 @@ pub trait CountedValues {
     fn len(&self) -> usize
         ensures { result ≡ length (values self.now) };
 
-    /// Returns the truth value at index `i`, and adds its cost to the counter.
+    /// Returns the truth value at index `i`, and adds its cost to `steps`.
     fn value(&self, i: usize, steps: &mut Steps) -> bool
         requires { i < length (values self.now) }
         ensures told { result ≡ slice_index_or (values self.now) i false }
@@ -104,7 +104,7 @@ fn are_sure<V: CountedValues>(values: &V, at: usize) -> bool
 }
 
 // Packs the `count` truth values from index `at` on into a word, with zeros above them. Adds the
-// cost of each value to the counter.
+// cost of each value to `steps`.
 #[inline(always)]
 fn pack_counted<V: CountedValues>(values: &V, at: usize, count: usize, steps: &mut Steps) -> u64
     requires few { count ≤ 64 }
@@ -121,7 +121,7 @@ fn pack_counted<V: CountedValues>(values: &V, at: usize, count: usize, steps: &m
 }
 
 // Packs the `count` truth values from index `at` on into a word, with zeros above them. Adds their
-// costs to the counter. If `count` is 64 and all guesses are sure, the word is made of the guesses;
+// costs to `steps`. If `count` is 64 and all guesses are sure, the word is made of the guesses;
 // otherwise the values are read one by one. If the first guess is not sure, no guess is made.
 #[inline(always)]
 fn count_word<V: CountedValues>(values: &V, at: usize, count: usize, steps: &mut Steps) -> u64
@@ -140,8 +140,8 @@ fn count_word<V: CountedValues>(values: &V, at: usize, count: usize, steps: &mut
     pack_counted(values, at, count, steps)
 }
 
-// Fills an empty vector with the `count` words that hold all truth values. Adds the cost of each
-// value to the counter.
+// Appends the `count` words that hold all truth values of `values` to the empty vector `words`.
+// Adds the cost of each value to `steps`.
 #[inline(always)]
 fn push_counted<V: CountedValues>(words: &mut Vec<u64>, values: &V, count: usize, steps: &mut Steps)
     requires enough { length (V.values values.now) ≤ 64 * count }
@@ -160,9 +160,9 @@ fn push_counted<V: CountedValues>(words: &mut Vec<u64>, values: &V, count: usize
 }
 
 impl Bitmap {
-    /// Creates a bitmap of truth values, and adds the cost of each value to the counter. The values
-    /// are read one by one, except for words in which all 64 guesses are sure (`is_sure`). The
-    /// error is `Memory`; the counter may have increased by then.
+    /// Creates a bitmap of the truth values of `values`, and adds the cost of each value to
+    /// `steps`. The values are read one by one, except for words in which all 64 guesses are sure
+    /// (`is_sure`). The error is `Memory`; `steps` is then not less than before.
     pub fn from_counted<V: CountedValues>(
         alloc: Global,
         values: &V,

@@ -41,14 +41,16 @@ pub enum ArrayError {
     /// The lengths of the parts do not fit together.
     #[error("lengths do not fit")]
     Length,
-    /// The offsets of row `row` decrease, or lie outside the values.
+    /// The offsets of row `row` decrease, or lie outside the values. `row` is 0 also if there are
+    /// no offsets, or if the only one lies outside the values.
     #[error("offsets of row {row} are not good")]
     Offsets { row: usize },
-    /// The values of field `at` do not have the struct's length or the field's type.
+    /// Field `at` or its values are missing, or the values do not have the struct's length or the
+    /// field's type.
     #[error("field {at} does not fit")]
     Field { at: usize },
-    /// The view of row `row` points outside its buffer, has a prefix that differs from the first
-    /// bytes of the row, or, in a row of at most 12 bytes, is not padded with zeros.
+    /// The view of row `row` points to no buffer or outside its buffer, has a prefix that differs
+    /// from the first bytes of the row, or, in a row of at most 12 bytes, is not padded with zeros.
     #[error("view {row} is not good")]
     View { row: usize },
     /// The bytes of row `row` are not UTF-8.

@@ -67,7 +67,7 @@ impl MutableBitmap {
         MutableBitmap::filled(alloc, true, n)
     }
 
-    // Copies the first `len` bits of a source into new words. The error is `Memory`.
+    // Creates a bitmap of the first `len` bits of a source. The error is `Memory`.
     pub(crate) fn from_source<S: BitSource>(
         alloc: Global,
         source: &S,
@@ -247,10 +247,10 @@ impl MutableBitmap {
         self.join(OrNot, other);
     }
 
-    /// Finds the equal rows of two sides; null is equal only to null. Before the call, the bits say
-    /// which rows have equal stored values; `left` and `right` say which rows of each side are
-    /// present. Afterwards, the bits say which rows are equal. Each bit `q` becomes
-    /// `(q & l & r) | !(l | r)`.
+    /// Finds the equal rows of two sides. Null is equal only to null. Before the call, the bits say
+    /// which rows have equal stored values; afterwards, which rows are equal. `left` and `right`
+    /// are the masks of the two sides. Each bit `q` becomes `(q & l & r) | !(l | r)`, where `l` and
+    /// `r` are the bits of `left` and `right`.
     pub fn merge_eq_assign(&mut self, left: &BitMask<'_>, right: &BitMask<'_>)
         requires left { length left.now ≡ length self.old }
         requires right { length right.now ≡ length self.old }
@@ -259,10 +259,10 @@ impl MutableBitmap {
         self.merge(MergeEq, left, right);
     }
 
-    /// Finds the unequal rows of two sides; null is equal only to null. Before the call, the bits
-    /// say which rows have unequal stored values; `left` and `right` say which rows of each side
-    /// are present. Afterwards, the bits say which rows are unequal. Each bit `q` becomes
-    /// `(q & l & r) | (l ^ r)`.
+    /// Finds the unequal rows of two sides. Null is equal only to null. Before the call, the bits
+    /// say which rows have unequal stored values; afterwards, which rows are unequal. `left` and
+    /// `right` are the masks of the two sides. Each bit `q` becomes `(q & l & r) | (l ^ r)`, where
+    /// `l` and `r` are the bits of `left` and `right`.
     pub fn merge_ne_assign(&mut self, left: &BitMask<'_>, right: &BitMask<'_>)
         requires left { length left.now ≡ length self.old }
         requires right { length right.now ≡ length self.old }

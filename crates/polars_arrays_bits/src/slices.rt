@@ -92,8 +92,8 @@ pub fn compare_few<L: Copy, R: Copy, E: Comparison<L, R>>(
     )
 }
 
-/// Sets each bit to its AND with the comparison of the elements of `left` and `right` at the same
-/// index. Does not allocate.
+/// Sets each bit of `bits` to its AND with the result of comparing the elements of `left` and
+/// `right` at the same index. Does not allocate.
 pub fn and_pairs<L: Copy, R: Copy, E: Comparison<L, R>>(
     bits: &mut MutableBitmap,
     comparison: &E,

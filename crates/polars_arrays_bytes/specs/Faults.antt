@@ -6,7 +6,7 @@ use Rattle.polars_arrays_flat.specs.Validity.{HasBits}
 use Rattle.polars_arrays_bytes.specs.OffsetStrings.{OffsetStrings, places, row_count, IsWithin}
 use Rattle.polars_arrays_bytes.specs.OffsetStrings.{IsGoodRow}
 
--- row `row` of n bytes is bad; without rows, row 0 is bad if the offset is missing or above n
+-- row `row` is bad for n bytes; without rows, row 0 is bad if no offset is in 0 to n
 abbrev pub IsBadRow : ℕ → List (Option ℕ) → ℕ → Type 0
 IsBadRow n [] row = row ≡ 0
 IsBadRow n (only ∷ []) row = (row ≡ 0) × ¬ (IsWithin n only)
@@ -18,7 +18,7 @@ pub record IsFirstBad (n : ℕ) (all : List (Option ℕ)) (row : ℕ) : Type 0 w
   pub bad : IsBadRow n all row
   pub before : (k : ℕ) → k < row → IsGoodRow n all k
 
--- the error that parts give; the validity is checked first
+-- the error for parts that do not make an array; the validity is checked before the offsets
 abbrev pub IsFirstFault : {A : Type 0} → (A → ℤ) → OffsetStrings A → ArrayError → Type 0
 IsFirstFault value a Length = ¬ (HasBits (row_count a.offsets) a.validity)
 IsFirstFault value a (Offsets row) =

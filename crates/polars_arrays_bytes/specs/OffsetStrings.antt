@@ -14,7 +14,7 @@ pub record OffsetStrings (A : Type 0) : Type 0 where
   pub values : List ℕ
   pub validity : Option (List Bool)
 
--- coded as the three
+-- the code of `OffsetStrings`: the tuple of its three fields
 abbrev pub offset_code : {A : Type 0} → Coded A → Coded (OffsetStrings A)
 offset_code code =
     code_by (List _ × (List ℕ × Option (List Bool)))
@@ -23,7 +23,7 @@ offset_code code =
     (λ a. (a.offsets, (a.values, a.validity)))
     (λ p. record { offsets = p.0; values = p.1.0; validity = p.1.1 }) (λ _. refl)
 
--- each offset as a place in the bytes, or None if it is negative; `value` gives its whole number
+-- each offset as a place in the bytes, or None if negative; `value` converts an offset to ℤ
 abbrev pub places : {A : Type 0} → (A → ℤ) → List A → List (Option ℕ)
 places value offsets = map (λ offset. natural_of (value offset)) offsets
 
@@ -35,7 +35,7 @@ place_at all i = slice_index_or all i None
 abbrev pub row_count : {A : Type 0} → List A → ℕ
 row_count offsets = length offsets - 1
 
--- the bytes from one place up to another
+-- the bytes from one place up to another; none if one of the places is None
 abbrev pub between : List ℕ → Option ℕ → Option ℕ → List ℕ
 between values (Some from) (Some to) = window from (to - from) values
 between values _ _ = []
@@ -66,7 +66,7 @@ abbrev pub Bounds : ℕ → Option ℕ → Option ℕ → Type 0
 Bounds n (Some from) (Some to) = (from ≤ to) × (to ≤ n)
 Bounds n _ _ = ⊥
 
--- row i of n bytes is good
+-- row i is good for n bytes: its two places exist, do not decrease, and are at most n
 abbrev pub IsGoodRow : ℕ → List (Option ℕ) → ℕ → Type 0
 IsGoodRow n all i = Bounds n (place_at all i) (place_at all (i + 1))
 

@@ -13,7 +13,7 @@ pub record SizedStrings : Type 0 where
   pub values : List ℕ
   pub validity : Option (List Bool)
 
--- coded as the four
+-- the code of `SizedStrings`: the tuple of its four fields
 abbrev pub sized_code : Coded SizedStrings
 sized_code =
     code_by (ℕ × (ℕ × (List ℕ × Option (List Bool))))

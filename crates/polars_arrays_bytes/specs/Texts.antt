@@ -34,7 +34,7 @@ pub record AreTextParts {A : Type 0} (value : A → ℤ) (a : OffsetStrings A) :
   pub bounded : AreBounded value a
   pub texts : AreTexts (offset_strings value a)
 
--- the error of parts that are no texts: of the validity first, then the offsets, then the bytes
+-- the error for parts that are no texts; validity, offsets and bytes are checked in this order
 abbrev pub IsFirstTextFault : {A : Type 0} → (A → ℤ) → OffsetStrings A → ArrayError → Type 0
 IsFirstTextFault value a Length = ¬ (HasBits (row_count a.offsets) a.validity)
 IsFirstTextFault value a (Offsets row) =

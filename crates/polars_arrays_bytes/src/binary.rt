@@ -101,7 +101,7 @@ impl<O: Offset> BinaryArray<O> {
         self.offsets.as_slice()
     }
 
-    // Has no effect at run time. A proof learns from it that the offsets are good.
+    // Has no effect at run time. A proof learns from it that the offsets are good (`AreGood`).
     #[inline(always)]
     pub(crate) fn law_good(&self)
         ensures { AreGood (length self.now.values) (places O.value self.now.offsets) }

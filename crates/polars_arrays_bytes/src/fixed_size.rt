@@ -199,7 +199,7 @@ impl ByteRows for FixedSizeBinaryArray {
     ghost slots_law = { λ a. refl };
 }
 
-// Returns string `i` of strings of `size` bytes each, a slice of `values`.
+// Returns the bytes of string `i`, a slice of `values`. Each string has `size` bytes.
 #[inline]
 pub(crate) fn string_at(values: &[u8], size: usize, i: usize) -> &[u8]
     requires { size * i + size ≤ length values.now }
@@ -220,7 +220,7 @@ fn keep_strings(values: &mut Buffer<u8>, size: usize, at: usize, n: usize)
               values.old.owned;
         } }
 {
-    // The products below are at most this length, and so fit a `usize`.
+    // Has no effect at run time. The proof learns from it that both products fit in a `usize`.
     let _len = values.len();
     values.slice(size * at, size * n);
 }

@@ -19,9 +19,9 @@ pub fn row_count<O: Offset>(offsets: &[O]) -> usize
     offsets.len().saturating_sub(1)
 }
 
-/// Returns the first row that is bad for `n` bytes: `0 <= offsets[i] <= offsets[i + 1] <= n` does
-/// not hold. Returns 0 also if there are no offsets, or if the only one is not in `0..=n`. Returns
-/// `None` if all rows are good.
+/// Returns the first row `i` for which `0 <= offsets[i] <= offsets[i + 1] <= n` does not hold. `n`
+/// is the number of bytes. Returns 0 also if there are no offsets, or if the only one is not in
+/// `0..=n`. Otherwise returns `None`.
 #[tactic(auto, using(crate::proofs::OffsetWindows::faults))]
 pub fn first_bad_row<O: Offset>(offsets: &[O], n: usize) -> Option<usize>
     ensures { MatchOption result (AreGood n (places O.value offsets.now))
@@ -136,7 +136,7 @@ pub fn keep_rows<O: Offset>(offsets: &mut Buffer<O>, at: usize, n: usize)
     ensures { offsets.new
         ≡ record { items = window at (n + 1) offsets.old.items; owned = offsets.old.owned } }
 {
-    // The sum below is at most this length, so it fits a `usize`.
+    // Has no effect at run time. The proof learns from it that `n + 1` fits in a `usize`.
     let _len = offsets.len();
     offsets.slice(at, n + 1);
 }

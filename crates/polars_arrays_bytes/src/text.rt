@@ -81,7 +81,7 @@ impl<O: Offset> Utf8Array<O> {
         }
     }
 
-    /// Returns the array of the texts' bytes.
+    /// Returns the array of byte strings that stores the texts.
     pub fn as_binary(&self) -> &BinaryArray<O>
         ensures binary { result.now ≡ self.now }
         ensures texts { AreTexts (offset_strings O.value result.now) }

@@ -1,4 +1,4 @@
--- The rows of each kind of array of one level.
+-- The rows of arrays of numbers and of truth values, and null rows.
 use Rattle.std.specs.Prelude.{◌≡◌, ℕ, ℤ, Bool, true, false, List, Option, count_by}
 use Rattle.polars_arrays_flat.specs.Flat.{Flat}
 use Rattle.polars_arrays_flat.specs.Numbers.{Numbers}
@@ -14,7 +14,7 @@ number_rows value a = rows_under a.validity (number_slots value a.values)
 abbrev pub truth_rows : Flat Bool → List Row
 truth_rows a = rows_under a.validity (truth_slots a.values)
 
--- whether a row is null
+-- true if a row is null
 abbrev pub is_null : Row → Bool
 is_null Null = true
 is_null _ = false

@@ -1,4 +1,4 @@
--- The kind of a type of the program.
+-- The kind (`Kind`) of an `ArrowDataType`, and of an `IntegerType`.
 use Rattle.std.specs.Prelude.{◌≡◌, List, [], ◌∷◌, string_bytes}
 use Rattle.polars_arrays_flat.specs.Kind.{Kind, NullKind, BooleanKind, Int8Kind, Int16Kind}
 use Rattle.polars_arrays_flat.specs.Kind.{Int32Kind, Int64Kind, Int128Kind, UInt8Kind, UInt16Kind}

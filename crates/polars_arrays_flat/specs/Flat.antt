@@ -1,4 +1,4 @@
--- Arrays of one level as contracts see them.
+-- Arrays without child arrays, as contracts see them.
 use Rattle.std.specs.Prelude.{Bool, List, Option, refl}
 use Rattle.std.specs.Coded.{Coded, code_by, coded×, coded_bool, coded_list, coded_option}
 

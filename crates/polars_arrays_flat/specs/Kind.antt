@@ -2,7 +2,7 @@
 use Rattle.std.specs.Prelude.{ℕ, List}
 
 mutual
-  -- a kind for each type of the Arrow format, with its sizes and the kinds of its parts
+  -- a kind for each variant of `ArrowDataType`, with its sizes and the kinds of its parts
   pub data Kind : Type 0 where
     NullKind : Kind
     BooleanKind : Kind

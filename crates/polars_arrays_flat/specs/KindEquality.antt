@@ -14,7 +14,7 @@ use Rattle.polars_arrays_flat.specs.declared.data_type.ArrowDataType.{ArrowDataT
 use Rattle.polars_arrays_flat.specs.declared.data_type.Field.{Field}
 
 abbrev mutual
-  -- whether two kinds are equal
+  -- true if two kinds are equal
   pub kind_eq : Kind → Kind → Bool
   kind_eq NullKind NullKind = true
   kind_eq BooleanKind BooleanKind = true
@@ -42,16 +42,16 @@ abbrev mutual
   kind_eq (DictionaryKind i j) (DictionaryKind k l) = kind_eq i k && kind_eq j l
   kind_eq j k = false
 
-  -- whether two lists of named kinds are equal
+  -- true if two lists of named kinds are equal
   pub named_eq : NamedKinds → NamedKinds → Bool
   named_eq no_kinds no_kinds = true
   named_eq (more_kinds a j js) (more_kinds b k ks) = bytes_eq a b && (kind_eq j k && named_eq js ks)
   named_eq js ks = false
 
--- whether two types are of equal kinds
+-- true if two types are of equal kinds
 abbrev pub dtype_eq : ArrowDataType → ArrowDataType → Bool
 dtype_eq = on kind_of kind_eq
 
--- whether two fields have equal names, byte for byte, and equal kinds
+-- true if two fields have equal names, byte for byte, and equal kinds
 abbrev pub field_eq : Field → Field → Bool
 field_eq = eq_of_both (on (λ f. string_bytes f.name) bytes_eq) (on (λ f. kind_of f.dtype) kind_eq)

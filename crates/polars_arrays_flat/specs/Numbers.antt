@@ -2,13 +2,13 @@
 use Rattle.std.specs.Prelude.{Bool, List, Option, refl}
 use Rattle.std.specs.Coded.{Coded, code_by, coded×, coded_bool, coded_list, coded_option}
 
--- the stored values (also of masked rows), the validity, and whether the array alone has the values
+-- the stored values (also of masked rows), the validity, and whether the array owns the values
 pub record Numbers (A : Type 0) : Type 0 where
   pub values : List A
   pub validity : Option (List Bool)
   pub owned : Bool
 
--- coded as the three
+-- coded as the triple of the three fields
 abbrev pub numbers_code : {A : Type 0} → Coded A → Coded (Numbers A)
 numbers_code code =
     code_by (List _ × (Option (List Bool) × Bool))

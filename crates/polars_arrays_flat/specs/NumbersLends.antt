@@ -1,4 +1,4 @@
--- The value of an array of numbers after its stored values were lent for writing.
+-- The value of an array of numbers after a mutable borrow of its stored values.
 use Rattle.std.specs.Prelude.{List, length, Option}
 use Rattle.std.specs.Borrow.{Fml, RattleType, MutBor, Array, Lends, LendsIf}
 use Rattle.std.specs.List.{refill}

@@ -18,7 +18,7 @@ masked [] rows = []
 masked (bit ∷ bits) [] = []
 masked (bit ∷ bits) (row ∷ rows) = kept bit row ∷ masked bits rows
 
--- the rows of stored rows under a validity
+-- stored rows, with Null in place of those that a validity masks, if there is one
 abbrev pub rows_under : Option (List Bool) → List Row → List Row
 rows_under None rows = rows
 rows_under (Some bits) rows = masked bits rows

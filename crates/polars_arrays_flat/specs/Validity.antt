@@ -1,8 +1,8 @@
--- The validity: a bit for each row, 1 if it is present (the Arrow layout), or none if all rows are.
+-- The validity: a bit for each row, 1 if it is present (the Arrow layout). None masks no row.
 use Rattle.std.specs.Prelude.{◌≡◌, ℕ, Bool, true, false, not, List, Option, Some, None, IfSome}
 use Rattle.std.specs.Prelude.{length, take, drop, count_by, slice_index_or, option_map}
 
--- whether row i is present; a row that is not is masked
+-- true if row i is present; a row that is not is masked
 abbrev pub is_present : Option (List Bool) → ℕ → Bool
 is_present None i = true
 is_present (Some bits) i = slice_index_or bits i false

@@ -16,8 +16,8 @@ use std::alloc::Global;
 /// An array of rows. It stores a row in each slot, and has a mask that says which rows are present.
 /// A row is null if its bit of the mask is 0; otherwise it is the stored row.
 ///
-/// The mask is the validity that the array stores, except in a dictionary: its mask is 0 also for a
-/// present key whose entry is null. Kernels read the mask.
+/// The mask is the validity that the array stores, except in a dictionary: there, a row's bit is
+/// also 0 if the row's key refers to a null entry. Kernels read the mask.
 pub trait Array {
     // The stored rows, also those under nulls.
     ghost slots: { Self → List Row };
@@ -25,8 +25,8 @@ pub trait Array {
     // The validity that the array stores, if any.
     ghost validity_bits: { Self → Option (List Bool) };
 
-    // The mask: a bit for each row, 1 if the row is present, or None if no row is masked. Only the
-    // mask defines which of the stored rows are replaced by null.
+    // The mask: a bit for each row, 1 if the row is present. None masks no row. Only the mask
+    // defines which of the stored rows are replaced by null.
     ghost mask: { Self → Option (List Bool) };
 
     // The number of rows that the validity masks or that are stored as null.
@@ -35,8 +35,9 @@ pub trait Array {
     // Holds if two arrays have the same type.
     ghost same_type: { Self → Self → Type 0 };
 
-    // Holds if the array is good, that is, if its parts make an array on each level. The type of a
-    // nested array does not guarantee this. An array without child arrays is always good.
+    // Holds if the array is good: it and all arrays inside it meet what their constructors require.
+    // The Rust type of a nested array does not guarantee this. An array without child arrays is
+    // always good.
     ghost good: { Self → Type 0 };
 
     /// Returns the number of rows.
@@ -57,8 +58,8 @@ pub trait Array {
         ensures mask { MatchResult result (λ present. present ≡ mask self.now) IsMemory }
         ensures bits { HasBits (length (slots self.now)) (mask self.now) };
 
-    /// Returns the number of rows that the validity masks or that are stored as null. A present key
-    /// of a dictionary is not counted, even if its entry is null.
+    /// Returns the number of rows that the validity masks or that are stored as null. In a
+    /// dictionary, a row that the validity does not mask is not counted, even if its entry is null.
     fn null_count(&self) -> usize
         ensures nulls { result ≡ nulls self.now }
         ensures rows { good self.now → result

@@ -6,8 +6,8 @@ ghost use Rattle.std.specs.Str.{bytes_eq};
 ghost use Rattle.polars_arrays_flat.specs.Validity.{window};
 
 /// Returns whether two byte strings are equal. If the shorter one has 4 to 16 bytes, its first and
-/// last bytes are compared as numbers, even if the lengths differ: a branch on equal lengths would
-/// often be mispredicted.
+/// its last four or eight bytes are compared as numbers, even if the lengths differ: a branch on
+/// equal lengths would often be mispredicted.
 #[inline(always)]
 pub fn bytes_equal(left: &[u8], right: &[u8]) -> bool
     ensures { result ≡ bytes_eq left.now right.now }
@@ -24,8 +24,8 @@ pub fn bytes_equal(left: &[u8], right: &[u8]) -> bool
     }
 }
 
-// Returns whether the first `n` bytes are equal. `n` is 4 to 8. Compares the first four and the
-// last four of these bytes as numbers; the two may overlap.
+// Returns whether the first `n` bytes of `left` and `right` are equal. `n` is 4 to 8. Compares the
+// first four and the last four of these bytes as numbers; the two may overlap.
 #[inline(always)]
 fn same_fours(left: &[u8], right: &[u8], n: usize) -> bool
     requires some { 4 ≤ n }
@@ -39,8 +39,8 @@ fn same_fours(left: &[u8], right: &[u8], n: usize) -> bool
     same_start & same_end
 }
 
-// Returns whether the first `n` bytes are equal. `n` is 8 to 16. Compares the first eight and the
-// last eight of these bytes as numbers; the two may overlap.
+// Returns whether the first `n` bytes of `left` and `right` are equal. `n` is 8 to 16. Compares the
+// first eight and the last eight of these bytes as numbers; the two may overlap.
 #[inline(always)]
 fn same_eights(left: &[u8], right: &[u8], n: usize) -> bool
     requires some { 8 ≤ n }

@@ -22,7 +22,7 @@ pub trait ByteRows: Array {
 
     /// Returns a slice that begins with the byte string at index `i`, and the string's length in
     /// bytes. The slice may be longer than the string, so that a short string can be read as one
-    /// block.
+    /// block of 16 bytes.
     #[inline(always)]
     fn bytes_on(&self, i: usize) -> (&[u8], usize)
         requires { i < length (strings self.now) }

@@ -17,9 +17,10 @@ pub enum IntegerType {
     UInt64,
 }
 
-/// The type of an array, named as in the Arrow format. Lists have the type of their items,
-/// `FixedSizeBinary` has the number of bytes per row, `FixedSizeList` the type of its items and the
-/// number of items per row, and `Dictionary` the types of its keys and of its entries.
+/// The type of an array, named as in the Arrow format, except for `Int128` and `UInt128`, which
+/// that format lacks. Lists have the type of their items, `FixedSizeBinary` has the number of bytes
+/// per row, `FixedSizeList` the type of its items and the number of items per row, and `Dictionary`
+/// the types of its keys and of its entries.
 #[cycle(data_type)]
 #[derive(Drop)]
 pub enum ArrowDataType {

@@ -1,4 +1,4 @@
-//! Arrays without child arrays: stored values and an optional validity.
+//! Arrays without child arrays, types of arrays, masks, and comparisons of byte strings.
 #![tactic(auto)]
 
 pub mod array;

@@ -54,7 +54,7 @@ impl<'a> Mask<'a> {
         Mask { kept }
     }
 
-    /// Creates a mask that borrows the bits of the `n` rows from row `at` on.
+    /// Creates a mask for the `n` rows from row `at` on. Borrows their bits from `bits`.
     #[inline(always)]
     pub fn lent_window(bits: &'a Bitmap, at: usize, n: usize) -> Mask<'a>
         requires { at + n ≤ length bits.now }
@@ -65,7 +65,7 @@ impl<'a> Mask<'a> {
         }
     }
 
-    /// Creates a mask that owns its bits.
+    /// Creates a mask that owns `bits`.
     pub fn owned(bits: Bitmap) -> Mask<'a>
         ensures { result ≡ Some bits }
     {

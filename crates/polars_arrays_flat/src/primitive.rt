@@ -147,7 +147,8 @@ impl<T: NativeType> PrimitiveArray<T> {
         slice_validity(&mut self.validity, at, n);
     }
 
-    /// Removes and returns the validity. No row is masked afterwards.
+    /// Removes and returns the validity, or returns `None` if there is none. No row is masked
+    /// afterwards.
     pub fn take_validity(&mut self) -> Option<Bitmap>
         ensures taken { result ≡ self.old.validity }
         ensures left { self.new ≡ record self.old { validity = None } }
@@ -169,8 +170,8 @@ impl<T: NativeType> PrimitiveArray<T> {
     }
 
     /// Converts to an array whose stored values are shared: later clones use the same values
-    /// instead of copying them. No value is moved. Succeeds always if the values are shared
-    /// already. Otherwise the error is `Memory`.
+    /// instead of copying them. No value is moved. The error is `Memory`, and can occur only if the
+    /// array owns its values.
     pub fn share(self, alloc: Global) -> Result<PrimitiveArray<T>, ComputeError>
         ensures stored { MatchResult result
             (λ shared. shared ≡ record self { owned = false }) IsMemory }

@@ -24,7 +24,7 @@ use Rattle.polars_arrays_nested.specs.declared.any_array.AnyArray.{end_of-AnyArr
 use Rattle.polars_arrays_nested.specs.declared.any_array.AnyArray.{more_of-AnyArray}
 use Rattle.polars_arrays_views.specs.Parts.{view_rows}
 
--- `count` rows from row `from` on; `f` gives each
+-- the rows f k for the `count` indices k from `from` on
 abbrev pub rows_from : (ℕ → Row) → ℕ → ℕ → RowList
 rows_from f from zero = no_rows
 rows_from f from (suc count) = more_rows (f from) (rows_from f (from + 1) count)
@@ -35,9 +35,9 @@ entry_row Missing = Missing
 entry_row entry = Entry entry
 
 abbrev mutual
-  -- row i of an array, or Null if it is masked (the Arrow layout): the items between two offsets of
-  -- a list, or the `width` items from width * i on; the fields' rows of a struct; the entry that a
-  -- dictionary's key names, or Null if that is
+  -- row i of an array, or Null if it is masked (the Arrow layout). A list has the items between its
+  -- two offsets, or the `width` items from width * i on. A struct has row i of each column. A row
+  -- of a dictionary is the entry to which its key refers, or Null if the entry is Null
   pub row : AnyArray → ℕ → Row
   row (Null a) i = Missing
   row (Boolean a) i = row_at (truth_rows a) i

@@ -8,7 +8,7 @@ use Rattle.polars_arrays_nested.specs.Lengths.{len_of}
 use Rattle.polars_arrays_nested.specs.Types.{type_of}
 use Rattle.polars_arrays_nested.specs.declared.any_array.AnyArray.{AnyArray}
 
--- a has the rows and type of b, windows with the same leaf slots, kept alike, and is good if b is
+-- a has the type and rows of b, equal windows have equal leaf slots, kept alike; a is good if b is
 pub record IsClone (a b : AnyArray) : Type 0 where
   pub one_type : type_of a ≡ type_of b
   pub as_long : len_of a ≡ len_of b
@@ -17,7 +17,7 @@ pub record IsClone (a b : AnyArray) : Type 0 where
   pub alike : (i m : ℕ) → KeptAlike a b i i m
   pub good : IsGood b → IsGood a
 
--- each array of a list is a clone of the one at its place in the other list
+-- the lists have equal length, and each array of xs is a clone of the one at its index in ys
 pub record AreClones (xs ys : List AnyArray) : Type 0 where
   pub as_many : length xs ≡ length ys
   pub each : (i : ℕ) (d : AnyArray) → i < length ys

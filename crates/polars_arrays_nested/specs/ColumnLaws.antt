@@ -61,7 +61,7 @@ columns-fields m (field ∷ fields) len end_of-AnyArray h = h
 columns-fields m (field ∷ fields) len (more_of-AnyArray first rest) h =
     (h.0, h.1, h.2, columns-fields _ fields len rest h.3)
 
--- row i of a struct holds row i of each column
+-- row i of a struct holds row i of each column, or is Null if it is masked
 pub row-struct : (s : StructArray) (i : ℕ) → row (Struct s) i
     ≡ kept (is_present (struct_validity s) i) (Fields (rows_at (columns s) i))
 row-struct s i =
@@ -90,7 +90,7 @@ alike-struct s t i j n alike =
     (subst (λ l. ColumnsAlike (columns s) l i j n) (sym (items_hidden-the_row-AnyArray-0 t.values))
     alike))
 
--- a good struct has a good column for each field
+-- the validity of a good struct has a bit for each row, and each field has a good column
 pub good-struct : (s : StructArray) → IsGood (Struct s) → HasBits s.len (struct_validity s)
     × AreColumns (struct_fields s) s.len (columns s)
 good-struct s h = (
@@ -99,7 +99,7 @@ good-struct s h = (
       (fields-columns _ (struct_fields s) s.len (hidden-the_row-AnyArray-0 s.values) h.1),
 )
 
--- a struct with a good column for each field is good
+-- a struct is good if a validity has a bit for each row, and each field has a good column
 pub struct-good : (s : StructArray) → HasBits s.len (struct_validity s)
     → AreColumns (struct_fields s) s.len (columns s) → IsGood (Struct s)
 struct-good s bits good = (

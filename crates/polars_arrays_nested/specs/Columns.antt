@@ -16,12 +16,12 @@ abbrev pub rows_at : List AnyArray → ℕ → RowList
 rows_at [] i = no_rows
 rows_at (first ∷ rest) i = more_rows (row first i) (rows_at rest i)
 
--- the sum of the leaf slots of columns
+-- the number of leaf slots of all columns in the n rows from row `from` on
 abbrev pub columns_leaves : List AnyArray → ℕ → ℕ → ℕ
 columns_leaves [] from n = 0
 columns_leaves (first ∷ rest) from n = leaves first from n + columns_leaves rest from n
 
--- windows of columns are kept alike, place by place
+-- n rows from row i on of each column, and from row j on of its counterpart, are kept alike
 abbrev pub ColumnsAlike : List AnyArray → List AnyArray → ℕ → ℕ → ℕ → Type 0
 ColumnsAlike [] [] i j n = ⊤
 ColumnsAlike (first ∷ rest) (first' ∷ rest') i j n = KeptAlike first first' i j n

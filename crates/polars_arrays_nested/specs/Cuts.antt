@@ -8,7 +8,7 @@ use Rattle.polars_arrays_nested.specs.Lengths.{len_of}
 use Rattle.polars_arrays_nested.specs.Types.{type_of}
 use Rattle.polars_arrays_nested.specs.declared.any_array.AnyArray.{AnyArray}
 
--- a has the n rows of b from row `at` on, b's type, windows that are kept alike, and is good
+-- a is good, and is n rows of b from row `at` on: equal type, rows and leaf slots, kept alike
 pub record IsCut (a b : AnyArray) (at n : ℕ) : Type 0 where
   pub one_type : type_of a ≡ type_of b
   pub as_long : len_of a ≡ n

@@ -45,7 +45,7 @@ key_type (UInt16 a) = name.UInt16
 key_type (UInt32 a) = name.UInt32
 key_type (UInt64 a) = name.UInt64
 
--- the kind of an array of such keys
+-- the kind of the type of the keys
 abbrev pub kind_of_keys : DictKeys → Kind
 kind_of_keys keys = key_kind (key_type keys)
 
@@ -53,7 +53,7 @@ kind_of_keys keys = key_kind (key_type keys)
 abbrev pub key_count : DictKeys → ℕ
 key_count keys = length (key_places keys)
 
--- the entry that key i names; keys must be good
+-- key i as the index of an entry; 0 for a negative key, and past the last key
 abbrev pub key_at : DictKeys → ℕ → ℕ
 key_at keys i = place_or_zero (place_at (key_places keys) i)
 
@@ -62,7 +62,7 @@ abbrev pub IsEntry : ℕ → Option ℕ → Type 0
 IsEntry n None = ⊥
 IsEntry n (Some at) = at < n
 
--- key i is masked or names one of n entries; a masked key is arbitrary
+-- key i is masked or names one of n entries; a masked key may be any number
 abbrev pub IsGoodKey : ℕ → Option (List Bool) → List (Option ℕ) → ℕ → Type 0
 IsGoodKey n validity all i = is_present validity i ≡ true → IsEntry n (place_at all i)
 

@@ -16,19 +16,19 @@ use Rattle.polars_arrays_nested.specs.declared.any_array.AnyArray.{AnyArray}
 use Rattle.polars_arrays_nested.specs.declared.dict_keys.DictKeys.{DictKeys}
 use Rattle.polars_arrays_nested.specs.declared.list_offsets.ListOffsets.{ListOffsets}
 
--- the error of parts that make no lists of n items; the validity is checked before the offsets
+-- the error of parts that make no lists within n items; the validity is checked before the offsets
 abbrev pub IsListFault : ℕ → ListOffsets → Option (List Bool) → ArrayError → Type 0
 IsListFault n offsets validity Length = ¬ (HasBits (list_count offsets) validity)
 IsListFault n offsets validity (Offsets row) =
     HasBits (list_count offsets) validity × IsFirstBad n (list_places offsets) row
 IsListFault n offsets validity _ = ⊥
 
--- the error of keys that do not name rows of n entries
+-- the error of keys if a present one names none of n entries
 abbrev pub IsKeyFault : ℕ → DictKeys → ArrayError → Type 0
 IsKeyFault n keys (Key row) = IsFirstBadKey n (key_validity keys) (key_places keys) row
 IsKeyFault n keys _ = ⊥
 
--- a column has `len` rows and its field's type; past both lists all fits, past one alone nothing
+-- a column has `len` rows and its field's type; None fits only None
 abbrev pub Fits : ℕ → Option Field → Option AnyArray → Type 0
 Fits len (Some field) (Some column) = (len_of column ≡ len) × (type_of column ≡ kind_of field.dtype)
 Fits len None None = ⊤

@@ -21,12 +21,12 @@ use Rattle.polars_arrays_nested.specs.declared.any_array.AnyArray.{more_of-AnyAr
 use Rattle.polars_arrays_nested.specs.declared.dict_keys.DictKeys.{DictKeys}
 use Rattle.polars_arrays_nested.specs.declared.list_offsets.ListOffsets.{ListOffsets}
 
--- the parts make lists of n items: a bit for each list, and each list within the items
+-- the parts make lists within n items: a bit for each list in a validity, and good offsets
 pub record AreLists (n : ℕ) (offsets : ListOffsets) (validity : Option (List Bool)) : Type 0 where
   pub bits : HasBits (list_count offsets) validity
   pub good : AreGood n (list_places offsets)
 
--- the parts make `len` lists of `width` items: a bit for each, and exactly their items
+-- the parts make `len` lists of `width` items each: a bit for each list, and width * len items
 pub record AreFixedLists (n width len : ℕ) (validity : Option (List Bool)) : Type 0 where
   pub bits : HasBits len validity
   pub items : n ≡ width * len
@@ -36,7 +36,7 @@ pub record AreKeys (n : ℕ) (keys : DictKeys) : Type 0 where
   pub named : NameEntries n (key_validity keys) (key_places keys)
 
 abbrev mutual
-  -- an array and all arrays in it are made of good parts; arrays of one level are by their types
+  -- an array and all arrays inside it are made of good parts; one that is not nested always is
   pub IsGood : AnyArray → Type 0
   IsGood (Null a) = ⊤
   IsGood (Boolean a) = ⊤

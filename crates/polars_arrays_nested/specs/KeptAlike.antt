@@ -1,4 +1,4 @@
--- Windows of two arrays that are kept alike: comparing the one costs what comparing the other does.
+-- Windows of two arrays that are kept alike: comparing either with a third window costs the same.
 use Rattle.std.specs.Prelude.{◌≡◌, ◌<◌, ◌+◌, ◌*◌, ℕ, Bool, true, List, Option, ⊤}
 use Rattle.polars_arrays_flat.specs.Validity.{is_present}
 use Rattle.polars_arrays_nested.specs.DictKeys.{key_at, key_validity}
@@ -16,7 +16,7 @@ use Rattle.polars_arrays_nested.specs.declared.any_array.AnyArray.{more_of-AnyAr
 use Rattle.polars_arrays_nested.specs.declared.dict_keys.DictKeys.{DictKeys}
 use Rattle.polars_arrays_nested.specs.declared.list_offsets.ListOffsets.{ListOffsets}
 
--- lists i and j are both present or both masked, and have equally long and alike items
+-- lists i and j are both present or both masked, with equally many items, which are kept alike
 pub record AlikeLists (Items : ℕ → ℕ → ℕ → Type 0) (offsets : ListOffsets)
     (validity : Option (List Bool)) (offsets' : ListOffsets) (validity' : Option (List Bool))
     (i j : ℕ) : Type 0 where

@@ -22,8 +22,8 @@ total f from zero = 0
 total f from (suc count) = total f from count + f (from + count)
 
 abbrev mutual
-  -- the leaf slots in the n rows from row `from` on: the rows of an array of one level, the items
-  -- of lists, the fields of structs, the entry of each present row of a dictionary; nulls have none
+  -- the leaf slots in the n rows from row `from` on: one for each row, masked or not, but none in a
+  -- null array; in nested arrays those of all items and columns, and of the entries of present keys
   pub leaves : AnyArray → ℕ → ℕ → ℕ
   leaves (Null a) from n = 0
   leaves (Boolean a) from n = n
@@ -53,13 +53,13 @@ abbrev mutual
       total (λ k. cond (is_present (key_validity keys) k) (leaves values (key_at keys k) 1) 0) from
       n
 
-  -- the sum of the leaf slots of arrays
+  -- the number of leaf slots of all arrays in the n rows from row `from` on
   pub leaves_across : {m : _} → Row_of-AnyArray m → ℕ → ℕ → ℕ
   leaves_across end_of-AnyArray from n = 0
   leaves_across (more_of-AnyArray first rest) from n =
       leaves first from n + leaves_across rest from n
 
--- two adjacent windows have the leaf slots of both together
+-- two adjacent windows of a good array have together as many leaf slots as the joined window
 abbrev pub LeavesAddUp : Type 0
 LeavesAddUp =
     (a : AnyArray) (from m n : ℕ) → IsGood a → from + m + n ≤ len_of a → leaves a from (m + n)

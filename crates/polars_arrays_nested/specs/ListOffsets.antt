@@ -14,12 +14,12 @@ list_places (Large offsets) = places (λ x. x) offsets.items
 abbrev pub list_count : ListOffsets → ℕ
 list_count offsets = row_count (list_places offsets)
 
--- whether the offsets have 64 bits
+-- true if the offsets have 64 bits
 abbrev pub is_large : ListOffsets → Bool
 is_large (Small offsets) = false
 is_large (Large offsets) = true
 
--- place i; the offsets must be good
+-- offset i as the index of an item; 0 for a negative offset, and past the last offset
 abbrev pub offset_at : ListOffsets → ℕ → ℕ
 offset_at offsets i = place_or_zero (place_at (list_places offsets) i)
 

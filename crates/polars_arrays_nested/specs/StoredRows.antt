@@ -15,7 +15,7 @@ use Rattle.polars_arrays_nested.specs.declared.fixed_size_list.FixedSizeListArra
 use Rattle.polars_arrays_nested.specs.declared.list.ListArray.{ListArray}
 use Rattle.polars_arrays_nested.specs.declared.struct_array.StructArray.{StructArray}
 
--- the n rows that f gives
+-- the n rows f 0, f 1 and so on
 abbrev pub listed : (ℕ → Row) → ℕ → List Row
 listed f n = map f (range_with_len 0 n)
 

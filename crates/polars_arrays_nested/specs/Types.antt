@@ -19,7 +19,7 @@ use Rattle.polars_arrays_nested.specs.declared.any_array.AnyArray.{Dictionary'}
 use Rattle.polars_arrays_nested.specs.declared.list_offsets.ListOffsets.{ListOffsets}
 use Rattle.polars_arrays_nested.specs.declared.list_offsets.ListOffsets.TheVariants.{Small, Large}
 
--- the kind of lists of such items with these offsets
+-- the kind of an array of lists with these offsets, and items of the kind `item`
 abbrev pub kind_of_lists : ListOffsets → Kind → Kind
 kind_of_lists (Small offsets) item = ListKind item
 kind_of_lists (Large offsets) item = LargeListKind item

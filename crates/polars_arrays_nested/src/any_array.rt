@@ -27,8 +27,8 @@ use polars_arrays_views::binary_view::BinaryViewArray;
 use polars_arrays_views::text_view::Utf8ViewArray;
 use std::alloc::Global;
 
-// Matches on an array of any kind, with one expression for all kinds. Nested kinds may have
-// expressions of their own.
+// Matches on the array `$any`, binds the array inside it to `$array`, and evaluates one expression
+// for all kinds. In the second form, nested kinds have expressions of their own.
 macro_rules! each_array {
     ($any:expr, $array:ident => $each:expr) => {
         each_array!(
@@ -161,8 +161,8 @@ impl AnyArray {
         )
     }
 
-    // Clones an array that has no child arrays. This is a separate function, so that each level of
-    // a nested array takes a third less stack in `clone_array`.
+    // Clones an array that has no child arrays. The error is `Memory`. This is a separate function,
+    // so that each level of a nested array takes a third less stack in `clone_array`.
     #[tactic(auto, using(crate::proofs::Flat::flat))]
     fn clone_flat(&self, alloc: Global) -> Result<AnyArray, ComputeError>
         requires { IsTrue (is_flat self.now) }

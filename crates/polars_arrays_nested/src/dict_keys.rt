@@ -21,7 +21,8 @@ use polars_arrays_flat::validity::is_present;
 use polars_arrays_numbers::dictionary_key::DictionaryKey;
 use std::alloc::Global;
 
-// Matches on keys, with one expression for all types of keys.
+// Matches on `$keys`, binds the array inside to `$of_type`, and evaluates one expression for all
+// types of keys.
 macro_rules! each_type {
     ($keys:expr, $of_type:ident => $each:expr) => {
         match $keys {
@@ -164,7 +165,7 @@ fn first_bad<K: DictionaryKey>(keys: &PrimitiveArray<K>, n: usize) -> Option<usi
     None
 }
 
-// Returns whether the key of a row is masked, or is the index of one of `n` entries.
+// Returns whether the key of row `row` is masked, or is the index of one of `n` entries.
 #[tactic(auto, using(crate::proofs::Places::places_of))]
 fn is_good_key<K: DictionaryKey>(keys: &PrimitiveArray<K>, row: usize, n: usize) -> bool
     requires { row < length keys.now.values }
@@ -177,7 +178,7 @@ fn is_good_key<K: DictionaryKey>(keys: &PrimitiveArray<K>, row: usize, n: usize)
     }
 }
 
-// Returns whether the key of a row is the index of one of `n` entries.
+// Returns whether `keys[row]` is the index of one of `n` entries.
 #[tactic(auto, using(crate::proofs::Places::places_of))]
 fn names_entry<K: DictionaryKey>(keys: &[K], row: usize, n: usize) -> bool
     requires { row < length keys.now }

@@ -1,4 +1,4 @@
-//! Dictionary arrays: keys and the entries that they name.
+//! Dictionary arrays: keys, and the entries to which the keys refer.
 
 ghost use Rattle.std.specs.Prelude.{◌≡◌, ◌<◌, ◌+◌, ◌≤◌, ℕ, true, IfOk, IfErr, refl, MatchResult};
 ghost use Rattle.std.specs.Result.{OkIff};
@@ -74,7 +74,7 @@ impl DictionaryArray {
         &self.keys
     }
 
-    /// Returns the array of the entries, including those that no key names.
+    /// Returns the array of the entries, including those to which no key refers.
     pub fn values(&self) -> &AnyArray
         ensures values { result.now ≡ dictionary_values self.now }
         ensures smaller { size-AnyArray result.now < size-DictionaryArray self.now }

@@ -22,14 +22,14 @@ ghost use Rattle.polars_arrays_nested.specs.declared.fixed_size_list.FixedSizeLi
 ghost use Rattle.polars_arrays_nested.specs.declared.list.ListArray.{ListArray};
 ghost use Rattle.polars_arrays_nested.specs.declared.struct_array.StructArray.{StructArray};
 
-/// States that two adjacent windows together have as many leaf slots as the window of all their
-/// rows.
+/// States that two adjacent windows of a good array together have as many leaf slots as the window
+/// of all their rows.
 #[tactic(auto, using(crate::proofs::LeafSlots::leaf_slots))]
 pub fn law_leaves()
     ensures { LeavesAddUp }
 {}
 
-/// States that each row of a nested array is the stored row, or null if its mask bit is 0.
+/// States that each row of a good nested array is the stored row, or null if its mask bit is 0.
 #[tactic(auto, using(crate::proofs::RowLists::stored_rows))]
 pub fn law_rows()
     ensures lists { (a : ListArray) → IsGood (List a) → rows (List a)

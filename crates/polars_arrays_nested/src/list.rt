@@ -43,11 +43,11 @@ impl ListArray {
     /// Creates an array of lists: row `i` has the rows `offsets[i]..offsets[i + 1]` of `values` as
     /// its items. For example, the offsets 0, 2, 2 make a list of two items and an empty list. The
     /// first offset need not be 0. The errors, in the order of the checks, are
-    /// - `Length`, if the validity does not have one bit per row (there is one row less than there
-    ///   are offsets, and no row without offsets),
+    /// - `Length`, if the validity does not have one bit per row (the number of rows is one less
+    ///   than the number of offsets, or 0 if there are no offsets),
     /// - `Offsets` with the first row for which `0 <= offsets[i] <= offsets[i + 1] <= values.len()`
-    ///   does not hold; it is row 0 if there are no offsets, or if the only one is not in
-    ///   `0..=values.len()`.
+    ///   does not hold (`i` is the row). It is row 0 also if there are no offsets, or if the only
+    ///   offset is not in `0..=values.len()`.
     ///
     /// The offsets of null rows are checked too.
     #[tactic(auto, using(crate::proofs::Faults::faults))]

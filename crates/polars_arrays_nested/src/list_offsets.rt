@@ -16,8 +16,8 @@ use polars_arrays_bytes::offsets::{first_bad_row, keep_rows, row_count};
 use polars_arrays_numbers::offset::Offset;
 use std::alloc::Global;
 
-/// The offsets of lists in the array of their items, of 32 or 64 bits. There is one offset more
-/// than there are lists.
+/// The offsets of an array of lists, as 32-bit or 64-bit numbers. List `i` has the items
+/// `offsets[i]..offsets[i + 1]`. An array has one offset more than it has lists.
 #[derive(Drop)]
 pub enum ListOffsets {
     Small(Buffer<i32>),
@@ -57,9 +57,9 @@ impl ListOffsets {
         }
     }
 
-    /// Returns the first list that is bad for `n` items: `0 <= offsets[i] <= offsets[i + 1] <= n`
-    /// does not hold. Returns 0 also if there are no offsets, or if the only one is not in `0..=n`.
-    /// Returns `None` if all lists are good.
+    /// Returns the first list `i` for which `0 <= offsets[i] <= offsets[i + 1] <= n` does not hold,
+    /// where `n` is the number of items. Returns 0 also if there are no offsets, or if the only one
+    /// is not in `0..=n`. Otherwise returns `None`.
     pub fn first_bad_row(&self, n: usize) -> Option<usize>
         ensures { MatchOption result (AreGood n (list_places self.now))
             (IsFirstBad n (list_places self.now)) }

@@ -1,7 +1,7 @@
 //! Masks of arrays of any kind and of their windows.
 //!
-//! A row is null if its bit of the validity is 0, if it is a row of a `Null` array, or if it is a
-//! dictionary's key to a null entry. No other code decides which rows are null.
+//! A row is null if its bit of the validity is 0, if the array is a `Null` array, or if the array
+//! is a dictionary and the row's entry is null.
 
 ghost use Rattle.std.specs.Prelude.{◌≡◌, ◌+◌, ◌≤◌, ◌<◌, ℕ, false, IfSome, MatchResult, length};
 ghost use Rattle.std.specs.Option.{ForSome, option_copied};
@@ -45,8 +45,8 @@ fn keeps_bits(array: &AnyArray) -> bool
     }
 }
 
-// Returns whether row `i` is not null. If it is a dictionary's key, its entry must not be null
-// either.
+// Returns whether row `i` is not null. A row of a dictionary is not null if its key is present and
+// the entry is not null.
 #[tactic(auto, using(crate::proofs::Presence::entries))]
 fn is_there(array: &AnyArray, i: usize) -> bool
     requires good { IsGood array.now }
@@ -76,7 +76,8 @@ pub(crate) fn has_entry(array: &DictionaryArray, i: usize) -> bool
 }
 
 // A list of truth values for the `n` keys from key `at` on. A value is true if the key and its
-// entry are both present. `entries` is the mask of the entries.
+// entry are both present. `validity` is the validity of `keys`, and `entries` the mask of the
+// entries.
 #[derive(Drop)]
 struct NamedEntries<'m, 'a> {
     keys: &'m DictKeys,
@@ -171,8 +172,9 @@ fn named_window(
     }
 }
 
-// Returns the mask of the `n` rows of a dictionary from row `at` on. Borrows the validity of the
-// keys if the entries have no nulls, and computes the mask otherwise. The error is `Memory`.
+// Returns the mask of the `n` rows of a dictionary from row `at` on. Computes the mask if the
+// entries may have nulls (`keeps_bits`), and otherwise borrows the validity of the keys. The error
+// is `Memory`.
 #[tactic(auto, using(crate::proofs::Presence::windows))]
 fn dictionary_window(
     alloc: Global,
@@ -210,8 +212,8 @@ pub(crate) fn dictionary_mask(
     dictionary_window(alloc, array, 0, keys.len())
 }
 
-// Creates a mask of the `n` rows from row `at` on, which borrows the bits of the validity. Without
-// a validity, all rows are present.
+// Creates the mask of the `n` rows from row `at` on. The mask borrows its bits from `validity`. If
+// this is `None`, all rows are present.
 #[inline(always)]
 fn lent_window<'a>(validity: Option<&'a Bitmap>, at: usize, n: usize) -> Mask<'a>
     requires { IfSome (option_copied validity) (λ bits. at + n ≤ length bits) }
@@ -264,8 +266,8 @@ impl AnyArray {
         keeps_bits(self)
     }
 
-    /// Returns whether row `i` is null: its bit of the validity is 0, it is a row of a `Null`
-    /// array, or it is a dictionary's key to a null entry.
+    /// Returns whether row `i` is null: its bit of the validity is 0, the array is a `Null` array,
+    /// or the array is a dictionary and the row's entry is null.
     #[tactic(auto, using(crate::proofs::Presence::rows_told))]
     pub fn is_null_row(&self, i: usize) -> bool
         requires good { IsGood self.now }

@@ -161,8 +161,8 @@ fn clone_columns(alloc: Global, columns: &[AnyArray]) -> Result<Vec<AnyArray>, C
     Ok(copies)
 }
 
-// Returns the first index at which the field and the column do not fit together, or only one of
-// them exists. Returns `None` if there is no such index.
+// Returns the first index at which the column does not have `len` rows, or does not have the type
+// of its field, or only one of the two exists. Returns `None` if there is no such index.
 #[tactic(auto, using(crate::proofs::Structs::fits))]
 fn first_misfit(fields: &[Field], len: usize, values: &[AnyArray]) -> Option<usize>
     ensures { MatchOption result ((k : ℕ) → FitsAt fields.now len values.now k)

@@ -13,8 +13,8 @@ use crate::list::ListArray;
 use crate::struct_array::StructArray;
 use polars_arrays_flat::data_type::{ArrowDataType, is_struct_of, same_fields, same_keys};
 
-// Matches on an array. For an array whose type has no parameters, returns whether `$other` has the
-// same type. The other kinds have match arms of their own.
+// Matches on the array `$any`. If its type has no parameters, returns whether `$other` has the same
+// type. The other kinds have match arms of their own.
 macro_rules! same_type_as {
     ($other:expr, $any:expr, $($kind:ident)+, $($rest:tt)*) => {
         match $any {

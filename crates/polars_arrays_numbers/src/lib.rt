@@ -1,4 +1,5 @@
-//! The types of numbers that arrays hold, comparisons of two numbers, and an exact counter.
+//! The types of numbers, offsets and keys that arrays hold, comparisons of two numbers, and the
+//! counter `Steps`.
 #![tactic(auto)]
 
 pub mod comparison;

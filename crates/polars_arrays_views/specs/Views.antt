@@ -20,7 +20,7 @@ u32_at i v =
 unfoldable pub view_len : List ℕ → ℕ
 view_len v = u32_at 0 v
 
--- whether the row lies in the view
+-- true if the row lies in the view
 abbrev pub is_short : List ℕ → Bool
 is_short v = nat_le (view_len v) 12
 
@@ -28,7 +28,7 @@ is_short v = nat_le (view_len v) 12
 unfoldable pub view_buffer : List ℕ → ℕ
 view_buffer v = u32_at 8 v
 
--- the byte of the buffer where such a row begins
+-- the offset in its buffer at which a row of more than 12 bytes begins
 unfoldable pub view_offset : List ℕ → ℕ
 view_offset v = u32_at 12 v
 
@@ -79,12 +79,12 @@ pub record HoldsScalar (v xs : List ℕ) : Type 0 where
   pub good : length xs ≤ 12 → GoodView [] v
   pub row : length xs ≤ 12 → row_bytes [] v ≡ xs
 
--- whether equality of two rows reads buffers (our own choice): equal prefixes and lengths above 12
+-- true if equality of rows reads buffers (our own choice): equal prefixes, equal lengths above 12
 abbrev pub followed_eq : List ℕ → List ℕ → Bool
 followed_eq xs ys =
     nat_eq (length xs) (length ys) && nat_lt 12 (length xs) && bytes_eq (take 4 xs) (take 4 ys)
 
--- whether order of two rows reads buffers (our own choice): equal prefixes, one row longer than 12
+-- true if order of rows reads buffers (our own choice): equal prefixes, and a row longer than 12
 abbrev pub followed_lt : List ℕ → List ℕ → Bool
 followed_lt xs ys =
     bytes_eq (padded 4 xs) (padded 4 ys) && (nat_lt 12 (length xs) || nat_lt 12 (length ys))

@@ -57,8 +57,9 @@ impl BinaryViewArray {
     /// Creates an array of one view per row, the buffers of the rows of more than 12 bytes, and a
     /// validity. The errors, in the order of the checks, are
     /// - `Length`, if the validity does not have one bit per view,
-    /// - `View` with the first row whose view is bad: the row lies outside its buffer, or does not
-    ///   begin with the view's prefix, or has at most 12 bytes and is not padded with zeros.
+    /// - `View` with the first row whose view is bad: the row's buffer does not exist, the row lies
+    ///   outside its buffer or does not begin with the view's prefix, or the row has at most 12
+    ///   bytes and is not padded with zeros.
     ///
     /// The views of null rows are checked too.
     pub fn try_new(

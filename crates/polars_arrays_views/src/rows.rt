@@ -1,4 +1,4 @@
-//! Compares single rows for equality and order. Rows under nulls are compared too.
+//! Compares single rows for equality and order. Null rows are compared too, by their stored bytes.
 
 ghost use Rattle.std.specs.Prelude.{◌≡◌, ◌<◌, ◌+◌, ℕ, List, [], IsTrue, if◌then◌else◌, length};
 ghost use Rattle.std.specs.Prelude.{slice_index_or, false};
@@ -46,9 +46,9 @@ pub fn rows_equal(
     left.value(i) == right.value(j)
 }
 
-/// Returns whether two views have the same sixteen bytes. If the row of `v` has at most 12 bytes,
-/// the result says whether the rows are equal. For a longer row the result is only a guess, since
-/// the buffers are not read.
+/// Returns whether the views `v` and `w` have the same sixteen bytes. If the row of `v` has at most
+/// 12 bytes, the result says whether the rows are equal. For a longer row the result is only a
+/// guess, since the buffers are not read.
 #[inline(always)]
 pub fn guess_equal(v: &View, w: &View) -> bool
     ensures { (buffers others : List (List ℕ)) → GoodView buffers v.now → GoodView others w.now
@@ -103,7 +103,7 @@ pub fn row_less(
     bytes_less(left.value(i), right.value(j))
 }
 
-/// Returns whether row `i` has exactly the bytes of `scalar`.
+/// Returns whether row `i` of `left` has exactly the bytes of `scalar`.
 #[inline]
 pub fn row_equals_bytes(left: &BinaryViewArray, i: usize, scalar: &ScalarRow) -> bool
     requires { i < length left.now.views }
@@ -125,7 +125,7 @@ pub fn row_equals_bytes(left: &BinaryViewArray, i: usize, scalar: &ScalarRow) ->
     left.value(i) == scalar.bytes()
 }
 
-/// Returns whether row `i` is less than `scalar`, byte by byte.
+/// Returns whether row `i` of `left` is less than `scalar`, byte by byte.
 #[inline]
 pub fn row_less_bytes(left: &BinaryViewArray, i: usize, scalar: &ScalarRow) -> bool
     requires { i < length left.now.views }
@@ -143,7 +143,7 @@ pub fn row_less_bytes(left: &BinaryViewArray, i: usize, scalar: &ScalarRow) -> b
     bytes_less(left.value(i), scalar.bytes())
 }
 
-/// Returns whether `scalar` is less than row `j`, byte by byte.
+/// Returns whether `scalar` is less than row `j` of `right`, byte by byte.
 #[inline]
 pub fn bytes_less_row(scalar: &ScalarRow, right: &BinaryViewArray, j: usize) -> bool
     requires { j < length right.now.views }

@@ -6,8 +6,8 @@ ghost use Rattle.polars_arrays_views.specs.Views.{HoldsScalar};
 use crate::view::View;
 use std::marker::Model;
 
-/// A byte string that is compared with many rows, and a view for it. The view holds the whole
-/// string if it has at most 12 bytes, and otherwise only its prefix.
+/// A byte string that is compared with many rows, and a view for it. The view of a string of at
+/// most 12 bytes holds the whole string. The view of a longer one holds only the prefix.
 #[derive(Drop)]
 pub struct ScalarRow<'a> {
     bytes: &'a [u8],
@@ -50,8 +50,8 @@ impl<'a> ScalarRow<'a> {
         self.bytes
     }
 
-    /// Returns the view. It holds the whole string if it has at most 12 bytes, and otherwise only
-    /// its prefix.
+    /// Returns the view. The view of a string of at most 12 bytes holds the whole string. The view
+    /// of a longer one holds only the prefix.
     #[inline(always)]
     pub fn view(&self) -> &View
         ensures { HoldsScalar result.now self.now }

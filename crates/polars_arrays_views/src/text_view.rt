@@ -209,9 +209,9 @@ fn first_not_text(array: &BinaryViewArray) -> Option<usize>
     None
 }
 
-// Returns whether each buffer as a whole is UTF-8. Returns `false` if the buffers together have
-// more than 64 bytes per row: most of their bytes may then belong to other arrays, and are not
-// worth reading.
+// Returns whether each buffer as a whole is UTF-8. Returns `false` also if the buffers together
+// have more than 64 bytes for each of `rows` rows: most of their bytes may then belong to other
+// arrays, and are not worth reading.
 fn hold_texts(buffers: &[Buffer<u8>], rows: usize) -> bool
     ensures { IsTrue result → All IsUtf8 (contents buffers.now) }
 {
@@ -226,8 +226,8 @@ fn hold_texts(buffers: &[Buffer<u8>], rows: usize) -> bool
     true
 }
 
-// Returns whether the bytes of row `row` are UTF-8. `whole` says that each buffer as a whole is
-// UTF-8.
+// Returns whether the bytes of row `row` are UTF-8. `whole` may be true only if each buffer as a
+// whole is UTF-8.
 fn is_text_row(array: &BinaryViewArray, row: usize, whole: bool) -> bool
     requires row { row < length array.now.views }
     requires whole { IsTrue whole → All IsUtf8 array.now.buffers }
@@ -239,9 +239,10 @@ fn is_text_row(array: &BinaryViewArray, row: usize, whole: bool) -> bool
     is_text(array.value(row))
 }
 
-// Returns whether a quick check shows that the row is UTF-8: its view is ASCII, or the row begins
-// and ends between characters of a buffer that is UTF-8. `whole` says that each buffer as a whole
-// is UTF-8.
+// Returns whether a quick check shows that the row of `view` is UTF-8. For a row of at most 12
+// bytes, returns whether the view is ASCII. For a longer row, returns whether `whole` is true and
+// the row begins and ends between characters of its buffer. `whole` may be true only if each buffer
+// as a whole is UTF-8.
 fn shows_text(view: &View, buffers: &[Buffer<u8>], whole: bool) -> bool
     requires good { GoodView (contents buffers.now) view.now }
     requires whole { IsTrue whole → All IsUtf8 (contents buffers.now) }
@@ -264,7 +265,7 @@ fn lies_between_characters(view: &View, buffers: &[Buffer<u8>]) -> bool
 }
 
 // Returns whether index `at` lies between characters: the byte at `at` is not a continuation byte
-// of UTF-8, or there is no such byte.
+// of UTF-8, or `at` is the length of `bytes`.
 fn begins_character(bytes: &[u8], at: usize) -> bool
     requires { at ≤ length bytes.now }
     ensures { IsTrue result → IsCharBoundary bytes.now at }

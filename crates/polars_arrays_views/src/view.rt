@@ -18,7 +18,7 @@ use std::simd::prelude::*;
 /// 12 bytes follows in bytes 4 to 15, padded with zeros. For a longer row, bytes 4 to 7 are its
 /// prefix (its first four bytes), bytes 8 to 11 the index of its buffer, and bytes 12 to 15 its
 /// offset in that buffer. Numbers are little-endian and unsigned. Any sixteen bytes make a view;
-/// `is_good` checks it.
+/// `is_good` checks whether they describe a row.
 ///
 /// For example, the view of the row `abc` is
 /// `[3, 0, 0, 0, b'a', b'b', b'c', 0, 0, 0, 0, 0, 0, 0, 0, 0]`.
@@ -125,7 +125,8 @@ impl View {
         &self.bytes[4..4 + len]
     }
 
-    /// Returns the bytes of the row, which must lie in one of these buffers.
+    /// Returns the bytes of the row. The row must lie in one of `buffers` and begin with the view's
+    /// prefix.
     #[inline]
     pub fn in_buffer<'a>(&self, buffers: &'a [Buffer<u8>]) -> &'a [u8]
         requires { InBuffer (contents buffers.now) self.now }

@@ -3,11 +3,11 @@ use Rattle.std.specs.Prelude.{◌≡◌, ℕ, ◌+◌, ◌*◌, ◌/◌, ◌%◌
 use Rattle.std.specs.Prelude.{length, get_or, map, count_by}
 use Rattle.std.specs.List.{range_with_len}
 
--- whether bit i of a word is 1; bit 0 is the lowest
+-- true if bit i of a word is 1; bit 0 is the lowest
 abbrev pub is_bit : ℕ → ℕ → Bool
 is_bit word i = eqb (word / 2 ^ i % 2) 1
 
--- bit p of words
+-- bit p of words, or false past their end; bit 0 is the lowest bit of the first word
 abbrev pub bit_of : List ℕ → ℕ → Bool
 bit_of words p = is_bit (get_or words (p / 64) 0) (p % 64)
 
@@ -46,7 +46,7 @@ pub record IsWritten (old new : List ℕ) (from to : ℕ) (value : Bool) : Type 
   pub below : (p : ℕ) → p < from → bit_of new p ≡ bit_of old p
   pub above : (p : ℕ) → to ≤ p → bit_of new p ≡ bit_of old p
 
--- the new words hold `word` from bit p on, up to their end, and the old bits before it
+-- the new words hold the old bits before bit p, then the bits of `word`, as far as there are words
 pub record IsPut (old new : List ℕ) (p word : ℕ) : Type 0 where
   pub count : length new ≡ length old
   pub before : (q : ℕ) → q < p → bit_of new q ≡ bit_of old q

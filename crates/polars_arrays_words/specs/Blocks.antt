@@ -1,13 +1,13 @@
--- Blocks of truth values, each reduced to one bit: whether all of them are true.
+-- Blocks of truth values, each reduced to one bit, which is 1 if all values of the block are true.
 use Rattle.std.specs.Prelude.{◌≡◌, ℕ, ◌+◌, ◌*◌, ◌<◌, ◌≤◌, Bool, false, List, take, drop}
 use Rattle.std.specs.List.{list_all}
 use Rattle.polars_arrays_words.specs.Bits.{is_bit, first_of}
 
--- whether the truth values of each of n blocks of `width` are all true
+-- a truth value for each of n blocks of `width` bits: true if all bits of the block are true
 abbrev pub blocks_all : ℕ → ℕ → List Bool → List Bool
 blocks_all width n bits = first_of (λ i. list_all (λ b. b) (take width (drop (width * i) bits))) n
 
--- whether the i-th `width` values of f are all true
+-- true if all values of f in block i are true; each block has `width` values
 abbrev pub block_true : ℕ → (ℕ → Bool) → ℕ → Bool
 block_true width f i = list_all (λ b. b) (first_of (λ j. f (width * i + j)) width)
 

@@ -1,4 +1,4 @@
--- Truth values while they are packed.
+-- Truth values written to flags, packed into a word, and appended to words.
 use Rattle.std.specs.Prelude.{◌≡◌, ◌<◌, ◌≤◌, ◌+◌, ℕ, Bool, false, List, length, get_or, slice_index}
 use Rattle.std.specs.Prelude.{slice_index_or, if◌then◌else◌}
 use Rattle.polars_arrays_words.specs.Bits.{is_bit, bit_of}

@@ -18,8 +18,8 @@ pub trait WordChange {
     fn inner_words(&self) -> usize
         ensures { result ≡ inner self.now };
 
-    /// Returns the new value of word `k`, given its old value `word`. Reads the sources without
-    /// bounds checks.
+    /// Returns the new value of word `k`, given its old value `word`. Reads the change's sources of
+    /// bits without bounds checks.
     fn inner_word(&self, k: usize, word: u64) -> u64
         requires { k < inner self.now }
         ensures { IsChangedWord (bit self.now) k word result };
@@ -93,7 +93,8 @@ impl<O: TernaryOperator, A: BitSource, B: BitSource> WordChange for MergedWith<O
     }
 }
 
-/// Changes the first `to` words. The sources are read without bounds checks.
+/// Applies `change` to the first `to` words of `words`. Reads the change's sources without bounds
+/// checks.
 #[inline(always)]
 pub fn change_inner_words<C: WordChange>(words: &mut [u64], change: &C, to: usize)
     requires within { to ≤ length words.old }
@@ -105,7 +106,7 @@ pub fn change_inner_words<C: WordChange>(words: &mut [u64], change: &C, to: usiz
     }
 }
 
-/// Changes the words from index `from` up to `to`, which is excluded.
+/// Applies `change` to the words from index `from` up to `to`, which is excluded.
 #[inline(always)]
 pub fn change_words<C: WordChange>(words: &mut [u64], change: &C, from: usize, to: usize)
     requires order { from ≤ to }

@@ -178,8 +178,8 @@ impl BitSource for Fours<'_> {
 }
 
 /// A list of `count` truth values, one for each block of `width` bits, true if all bits of the
-/// block are true. The first block begins at bit `by` of the first word. Blocks are read one at a
-/// time.
+/// block are true. The first block begins at bit `by` of the first word. Bits past the end of
+/// `words` are false. Blocks are read one at a time.
 #[derive(Drop)]
 pub struct Blocks<'a> {
     pub words: &'a [u64],

@@ -24,10 +24,10 @@ pub trait TruthValues {
         ensures { result ≡ slice_index_or (values self.now) i false };
 
     /// Returns whether truth values are packed eight at a time, in registers (`pack_by_bytes`).
-    /// Otherwise each value is first written to a flag of one byte, and a vector operation packs
-    /// the flags: 64 at once in `pack_by_flags`, and 16 at once in `pack_few`, by
-    /// `pack_by_sixteens`. Registers are faster if each value is computed from more than 64 bits.
-    /// The packed bits don't depend on this choice.
+    /// Otherwise each value is first written to a flag of one byte, and a vector operation packs 64
+    /// flags (`pack_by_flags`), or 16 in `pack_few` (`pack_by_sixteens`). Registers are faster if
+    /// each value is computed from more than 64 bits. The packed bits don't depend on this choice,
+    /// and `pack_few` ignores it for fewer than 16 values.
     #[inline(always)]
     fn packs_in_registers(&self) -> bool {
         false
@@ -160,7 +160,7 @@ fn pack_bits<V: TruthValues>(values: &V, at: usize, count: usize) -> u64
 }
 
 // Packs `count` truth values from index `at` on into a word, eight at a time, with zeros above
-// them. The results of eight comparisons of wide elements stay in registers until they make a byte.
+// them. The values stay in registers until eight of them make a byte.
 #[inline(always)]
 fn pack_by_bytes<V: TruthValues>(values: &V, at: usize, count: usize) -> u64
     requires few { count ≤ 64 }

@@ -36,6 +36,7 @@ fn many_set(words: &[u64], by: usize, at: usize, n: usize) -> bool
 }
 
 /// Returns whether the `n` bits from bit `at` on are all true. Bit 0 is bit `by` of the first word.
+/// Bits past the end of `words` are false.
 #[inline(always)]
 pub fn all_set(words: &[u64], by: usize, at: usize, n: usize) -> bool
     requires by { by < 64 }

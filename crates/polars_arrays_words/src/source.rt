@@ -114,8 +114,8 @@ impl BitSource for Shifted<'_> {
 }
 
 /// The bits of `words`, followed by zeros. The first bit is bit `by` of the first word. `by` may be
-/// 0, so a single loop serves all values of `by`. Each word read takes two of `words`, so this
-/// suits loops that spend most of their time on other work.
+/// 0, so a single loop serves all values of `by`. Each word is made from two of `words`, so
+/// `Placed` suits loops that spend most of their time on other work.
 #[derive(Drop)]
 pub struct Placed<'a> {
     pub words: &'a [u64],
@@ -148,7 +148,7 @@ impl BitSource for Placed<'_> {
     }
 }
 
-// Appends the four words from index `k` on. Reads them without bounds checks.
+// Appends the four words of `source` from word `k` on to `words`. Reads them without bounds checks.
 #[inline(always)]
 fn push_four_words<S: BitSource>(words: &mut Vec<u64>, source: &S, k: usize)
     requires inner { k + 4 ≤ S.inner source.now }
@@ -184,8 +184,8 @@ fn push_fours<S: BitSource>(words: &mut Vec<u64>, source: &S, fours: usize)
     }
 }
 
-// Appends the words from index `from` up to `to`, which is excluded. Reads them without bounds
-// checks.
+// Appends the words of `source` from word `from` up to word `to`, which is excluded, to `words`.
+// Reads them without bounds checks.
 #[inline(always)]
 fn push_inner_words<S: BitSource>(words: &mut Vec<u64>, source: &S, from: usize, to: usize)
     requires order { from ≤ to }
@@ -200,7 +200,7 @@ fn push_inner_words<S: BitSource>(words: &mut Vec<u64>, source: &S, from: usize,
     }
 }
 
-// Appends the words from index `from` up to `to`, which is excluded.
+// Appends the words of `source` from word `from` up to word `to`, which is excluded, to `words`.
 #[inline(always)]
 fn push_words<S: BitSource>(words: &mut Vec<u64>, source: &S, from: usize, to: usize)
     requires order { from ≤ to }
@@ -292,7 +292,8 @@ pub fn count_bits<S: BitSource>(source: &S, len: usize) -> usize
     counted + last.count_ones() as usize
 }
 
-/// Counts the set bits among the `len` bits that begin at bit `by` of the first word.
+/// Counts the set bits among the `len` bits that begin at bit `by` of the first word. Bits past the
+/// end of `words` are not set.
 pub fn count_window(words: &[u64], by: usize, len: usize) -> usize
     requires { by < 64 }
     ensures { result ≡ count_by (λ b. b) (window by len words.now) }

@@ -27,9 +27,9 @@ pub(crate) fn join(low: u64, high: u64, by: usize) -> u64
 }
 
 // Returns the 64 bits that begin at bit `by` of `low` and continue in `high`, like `join`, but in a
-// form for loops, which the compiler can vectorize. For `|` it emits a double-word shift, which has
-// no vector form. The two terms share no bit, so `+` has the same result. `^` would do too, except
-// in loops that combine two joins by `^`: there the compiler reorders all four shifts.
+// form that the compiler can vectorize in loops. For `|` the compiler emits a double-word shift,
+// which has no vector form. The two terms share no bit, so `+` has the same result. `^` would do
+// too, except in loops that combine two joins by `^`: there the compiler reorders all four shifts.
 #[inline]
 pub(crate) fn join_lanes(low: u64, high: u64, by: usize) -> u64
     requires some { 0 < by }
@@ -97,7 +97,8 @@ impl Place {
     }
 }
 
-/// Locates the run of `n` bits from bit `at` on. Bit 0 is bit `by` of the first word.
+/// Returns the [`Place`] of a run of `n` bits in a slice of words. The run begins `by + at` bits
+/// after the lowest bit of the slice's first word. This sum need not fit in a `usize`.
 pub fn place_of(by: usize, at: usize, n: usize) -> Place
     requires { by < 64 }
     ensures within_word { result.by < 64 }

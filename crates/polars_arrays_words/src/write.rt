@@ -42,7 +42,8 @@ fn write_words(words: &mut [u64], from: usize, to: usize, value: bool)
     }
 }
 
-/// Sets the bits from `from` up to `to`, which is excluded, to `value`, whole words at a time.
+/// Sets the bits from `from` up to `to`, which is excluded, to `value`. Sets whole words where
+/// possible.
 pub fn fill_bits(words: &mut [u64], from: usize, to: usize, value: bool)
     requires order { from ≤ to }
     requires room { to ≤ 64 * length words.old }
@@ -59,7 +60,7 @@ pub fn fill_bits(words: &mut [u64], from: usize, to: usize, value: bool)
     }
 }
 
-// Sets word `k`, or does nothing if there is no word `k`.
+// Sets word `k` to `word`, or does nothing if there is no word `k`.
 #[inline]
 fn set_word(words: &mut [u64], k: usize, word: u64)
     ensures { words.new ≡ slice_set words.old k word }

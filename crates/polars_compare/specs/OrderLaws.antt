@@ -4,7 +4,7 @@ use Rattle.polars_arrays_flat.specs.Row.{Row, Int, Truth, Bytes}
 use Rattle.polars_compare_leaves.specs.Order.{row_at_most, row_greater, row_less}
 use Rattle.polars_compare_leaves.specs.Sameness.{same_row}
 
--- whether two rows have an order: two numbers, two truth values, or two lists of bytes
+-- true if two rows have an order: two numbers, two truth values, or two lists of bytes
 abbrev pub have_order : Row → Row → Bool
 have_order (Int m) (Int n) = true
 have_order (Truth a) (Truth b) = true
@@ -32,7 +32,7 @@ abbrev pub AtMostIsLessOrSame : Type 0
 AtMostIsLessOrSame = (x y : Row) → IsTrue (have_order x y) → row_at_most x y
     ≡ (row_less x y || same_row x y)
 
--- a row that is less than a lesser one is less
+-- less is transitive
 abbrev pub LessIsTransitive : Type 0
 LessIsTransitive = (x y z : Row) → IsTrue (row_less x y) → IsTrue (row_less y z)
     → IsTrue (row_less x z)

@@ -7,13 +7,13 @@ use Rattle.polars_compare_leaves.specs.Equality.{MissingEquality, RawEquality}
 use Rattle.polars_compare_leaves.specs.Order.{RawOrder}
 use Rattle.polars_compare.specs.Types.{Types, OneType}
 
--- stored rows and a mask, which has a bit for each row if there is one
+-- stored rows, and an optional mask with a bit for each row
 pub record Stored : Type 0 where
   pub slots : List Row
   pub mask : Option (List Bool)
   pub bits : HasBits (length slots) mask
 
--- the rows of stored rows and their mask
+-- the stored rows, with Null in place of each masked row
 abbrev pub rows_of : Stored → List Row
 rows_of a = rows_under a.mask a.slots
 
@@ -21,7 +21,7 @@ rows_of a = rows_under a.mask a.slots
 abbrev pub BothPresent : Stored → Stored → ℕ → Type 0
 BothPresent left right i = (row (rows_of left) i ≢ Null) × (row (rows_of right) i ≢ Null)
 
--- missing equality and missing inequality of the same rows are the same bits
+-- missing equality of the same rows gives the same bits, and so does missing inequality
 abbrev pub MissingByRows : Type 0
 MissingByRows =
     (told : Bool) (types : Types) (left right left' right' : Stored) (bits bits' : List Bool)
@@ -30,7 +30,7 @@ MissingByRows =
     → MissingEquality told (OneType types) (rows_of left') (rows_of right') bits'
     → bits ≡ bits'
 
--- raw equality and inequality of the same rows have the same bit wherever both rows are present
+-- raw equality, or inequality, of the same rows has the same bit wherever both rows are present
 abbrev pub RawEqualityByRows : Type 0
 RawEqualityByRows =
     (told : Bool) (types : Types) (left right left' right' : Stored) (bits bits' : List Bool)

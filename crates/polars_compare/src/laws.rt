@@ -16,7 +16,8 @@ pub use polars_compare_nested::laws::{law_steps, law_tally};
 
 /// States that the order of rows is total. Of two numbers, two truth values or two byte strings `x`
 /// and `y`, exactly one holds: `x` is less than `y`, equal to `y`, or greater than `y`. At most
-/// means less or equal. Less is transitive.
+/// means less or equal. Less is transitive. The test `same_row` holds exactly if two rows are
+/// equal.
 pub fn law_total_order()
     ensures same { SameIsEqual }
     ensures one_of_three { OneOfThree }

@@ -11,11 +11,12 @@ IsUnsupported (Memory e) = ⊥
 IsUnsupported Unsupported = Unit {0}
 IsUnsupported (KeyOutOfRange key len) = ⊥
 
--- the error of a call that the kind supports, or does not
+-- the error of a call: Memory if the kind supports the call, otherwise Unsupported
 abbrev pub Refusal : Bool → ComputeError → Type 0
 Refusal true e = IsMemory e
 Refusal false e = IsUnsupported e
 
--- if the kind supports the call, P holds or the error is Memory; otherwise the error is Unsupported
+-- if the kind supports the call, P holds of the result or the error is Memory; otherwise the error
+-- is Unsupported
 abbrev pub Answers : {A : Type 0} → Bool → Result A ComputeError → (A → Type 0) → Type 0
 Answers has r P = MatchResult r (λ x. IsTrue has × P x) (Refusal has)

@@ -1,4 +1,4 @@
--- The number of stored rows is that of stored values.
+-- Arrays with equally many stored values have equally many stored rows.
 use Rattle.std.specs.Prelude.{◌≡◌, ℕ, ℤ, Bool, List, length, replicate}
 use Rattle.std.proofs.Common.{ap, sym, ◌∙◌}
 use Rattle.std.proofs.lemmas.List.{length-map}

@@ -24,8 +24,8 @@ use std::alloc::Global;
 /// `BytesEqKernel::tot_eq_kernel_broadcast(&array, Global, b"x")`, since `TotalEqKernel` has
 /// methods with the same names.
 pub trait BytesEqKernel: ByteRows + Sized {
-    /// Returns for each row whether it is equal to the byte string. The bit of a null row is
-    /// arbitrary.
+    /// Returns a bit for each row: 1 if the row is equal to the byte string `other`. The bit of a
+    /// null row is arbitrary.
     fn tot_eq_kernel_broadcast(&self, alloc: Global, other: &[u8]) -> Result<Bitmap, ComputeError>
         ensures { MatchResult result
             (RawEquality true ⊤ (Self.mask self.now) None (Self.slots self.now)
@@ -35,8 +35,8 @@ pub trait BytesEqKernel: ByteRows + Sized {
         compare_bytes(alloc, &Equal, self, other)
     }
 
-    /// Returns for each row whether it differs from the byte string. The bit of a null row is
-    /// arbitrary.
+    /// Returns a bit for each row: 1 if the row differs from the byte string `other`. The bit of a
+    /// null row is arbitrary.
     fn tot_ne_kernel_broadcast(&self, alloc: Global, other: &[u8]) -> Result<Bitmap, ComputeError>
         ensures { MatchResult result
             (RawEquality false ⊤ (Self.mask self.now) None (Self.slots self.now)
@@ -46,7 +46,8 @@ pub trait BytesEqKernel: ByteRows + Sized {
         compare_bytes(alloc, &Unequal, self, other)
     }
 
-    /// Returns for each row whether it is equal to the byte string; `false` for nulls.
+    /// Returns a bit for each row: 1 if the row is equal to the byte string `other`. The bit of a
+    /// null row is 0.
     final fn tot_eq_missing_kernel_broadcast(
         &self,
         alloc: Global,
@@ -62,7 +63,8 @@ pub trait BytesEqKernel: ByteRows + Sized {
         join_scalar(alloc, Relation::Equal, raw, self)
     }
 
-    /// Returns for each row whether it differs from the byte string; `true` for nulls.
+    /// Returns a bit for each row: 1 if the row differs from the byte string `other`. The bit of a
+    /// null row is 1.
     final fn tot_ne_missing_kernel_broadcast(
         &self,
         alloc: Global,
@@ -87,7 +89,8 @@ pub trait BytesEqKernel: ByteRows + Sized {
 /// Call these methods by path, as in `TextEqKernel::tot_eq_kernel_broadcast(&array, Global, "x")`,
 /// since `TotalEqKernel` has methods with the same names.
 pub trait TextEqKernel: ByteRows + Sized {
-    /// Returns for each row whether it is equal to the text. The bit of a null row is arbitrary.
+    /// Returns a bit for each row: 1 if the row is equal to the text `other`. The bit of a null row
+    /// is arbitrary.
     fn tot_eq_kernel_broadcast(&self, alloc: Global, other: &str) -> Result<Bitmap, ComputeError>
         ensures { MatchResult result
             (RawEquality true ⊤ (Self.mask self.now) None (Self.slots self.now)
@@ -97,7 +100,8 @@ pub trait TextEqKernel: ByteRows + Sized {
         compare_bytes(alloc, &Equal, self, other.as_bytes())
     }
 
-    /// Returns for each row whether it differs from the text. The bit of a null row is arbitrary.
+    /// Returns a bit for each row: 1 if the row differs from the text `other`. The bit of a null
+    /// row is arbitrary.
     fn tot_ne_kernel_broadcast(&self, alloc: Global, other: &str) -> Result<Bitmap, ComputeError>
         ensures { MatchResult result
             (RawEquality false ⊤ (Self.mask self.now) None (Self.slots self.now)
@@ -107,7 +111,8 @@ pub trait TextEqKernel: ByteRows + Sized {
         compare_bytes(alloc, &Unequal, self, other.as_bytes())
     }
 
-    /// Returns for each row whether it is equal to the text; `false` for nulls.
+    /// Returns a bit for each row: 1 if the row is equal to the text `other`. The bit of a null row
+    /// is 0.
     final fn tot_eq_missing_kernel_broadcast(
         &self,
         alloc: Global,
@@ -123,7 +128,8 @@ pub trait TextEqKernel: ByteRows + Sized {
         join_scalar(alloc, Relation::Equal, raw, self)
     }
 
-    /// Returns for each row whether it differs from the text; `true` for nulls.
+    /// Returns a bit for each row: 1 if the row differs from the text `other`. The bit of a null
+    /// row is 1.
     final fn tot_ne_missing_kernel_broadcast(
         &self,
         alloc: Global,

@@ -153,8 +153,8 @@ impl TotalEqKernel for FixedSizeBinaryArray {
 
 impl BytesEqKernel for FixedSizeBinaryArray {}
 
-// Does nothing at run time. Tells the proof that each array stores `size * count` bytes, from which
-// it learns that strings of different sizes are unequal.
+// States that `left` and `right` each store `size * count` bytes. From this, the proof concludes
+// that byte strings of different sizes are unequal. Does nothing at run time.
 fn read_sizes(left: &FixedSizeBinaryArray, right: &FixedSizeBinaryArray)
     ensures left { length left.now.values ≡ left.now.size * left.now.count }
     ensures right { length right.now.values ≡ right.now.size * right.now.count }

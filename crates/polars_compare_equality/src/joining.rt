@@ -13,9 +13,9 @@ use polars_arrays_flat::array::Array;
 use polars_compare_leaves::joining::{Relation, join_masks};
 use std::alloc::Global;
 
-/// Combines the raw bits of a comparison of two arrays with their masks, and returns the bits of
-/// missing equality or inequality. `relation` says which of the two was compared. The error is
-/// `Memory`.
+/// Returns the bits of missing equality of `left` and `right`, or of missing inequality if
+/// `relation` is `Unequal`. Combines `raw`, the bits of a raw comparison by the same relation, with
+/// the masks of both arrays. The error is `Memory`.
 #[inline]
 pub(crate) fn join_rows<A: Array>(
     alloc: Global,
@@ -40,9 +40,9 @@ pub(crate) fn join_rows<A: Array>(
     join_masks(alloc, relation, raw, left_mask.bits(), right_mask.bits())
 }
 
-/// Combines the raw bits of a comparison of each row with one scalar, which is not null, with the
-/// mask of the array. Returns the bits of missing equality or inequality. `relation` says which of
-/// the two was compared. The error is `Memory`.
+/// Returns the bits of missing equality of each row and one scalar that is not null, or of missing
+/// inequality if `relation` is `Unequal`. Combines `raw`, the bits of a raw comparison by the same
+/// relation, with the mask of `rows`. The error is `Memory`.
 #[inline]
 pub(crate) fn join_scalar<A: Array>(
     alloc: Global,

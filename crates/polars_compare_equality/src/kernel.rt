@@ -38,22 +38,25 @@ pub trait TotalEqKernel: Sized + Array {
     // Condition under which the array can be compared with a scalar.
     ghost fits: { Self → Self.Scalar → Type 0 };
 
-    // Condition on a scalar that is an array: it is good, with all arrays inside it.
+    // Condition on a scalar: for lists, the scalar is a good array. Other kinds have no condition.
     ghost good_scalar: { Self.Scalar → Type 0 };
 
     // The row that a scalar stands for.
     ghost scalar_row: { Self.Scalar → Row };
 
-    /// Returns whether the two arrays can be compared. They need equal lengths. Lists and
-    /// dictionaries also need equal types, and lists of fixed size need items of equal types.
+    /// Returns whether `self` can be compared with `other`. Both need the same length. `ListArray`s
+    /// and `DictionaryArray`s also need the same type, and `FixedSizeListArray`s items of the same
+    /// type. Present rows of different types, such as structs with different fields, are never
+    /// equal.
     fn can_compare(&self, other: &Self) -> bool
         requires good { Self.good self.now }
         requires good_other { Self.good other.now }
         ensures { IsTrue result ↔ comparable self.now other.now };
 
-    /// Returns whether a broadcast may be called with the scalar. For lists, the scalar is an array
-    /// of items, and must have the type of the list's items. For all other kinds the result is
-    /// `true`, even if they don't support broadcasts.
+    /// Returns whether a broadcast may be called with the scalar `other`. For `ListArray` and
+    /// `FixedSizeListArray`, `other` is one list, given as the array of its items, which must have
+    /// the type of the items of `self`. For all other kinds the result is `true`, even if they
+    /// don't support broadcasts.
     fn can_broadcast(&self, other: &Self::Scalar) -> bool
         requires good { Self.good self.now }
         requires good_other { good_scalar other.now }
@@ -81,7 +84,8 @@ pub trait TotalEqKernel: Sized + Array {
             (Self.mask other.now) (Self.slots self.now) (Self.slots other.now))
             IsMemory };
 
-    /// Returns for each row whether it is equal to the scalar. The bit of a null row is arbitrary.
+    /// Returns a bit for each row: 1 if the row is equal to the scalar `other`. The bit of a null
+    /// row is arbitrary.
     fn tot_eq_kernel_broadcast(
         &self,
         alloc: Global,
@@ -94,7 +98,8 @@ pub trait TotalEqKernel: Sized + Array {
             (RawEquality true ⊤ (Self.mask self.now) None (Self.slots self.now)
             (replicate (length (Self.slots self.now)) (scalar_row other.now))) };
 
-    /// Returns for each row whether it differs from the scalar. The bit of a null row is arbitrary.
+    /// Returns a bit for each row: 1 if the row differs from the scalar `other`. The bit of a null
+    /// row is arbitrary.
     fn tot_ne_kernel_broadcast(
         &self,
         alloc: Global,
@@ -124,7 +129,7 @@ pub trait TotalEqKernel: Sized + Array {
     }
 
     /// Returns a bit for each index `i`: 1 if row `i` of `self` differs from row `i` of `other`.
-    /// Null differs from each row that is not null.
+    /// Null differs from each row that is not null, but not from null.
     fn tot_ne_missing_kernel(&self, alloc: Global, other: &Self) -> Result<Bitmap, ComputeError>
         requires good { Self.good self.now }
         requires good_other { Self.good other.now }
@@ -139,7 +144,8 @@ pub trait TotalEqKernel: Sized + Array {
         join_rows(alloc, Relation::Unequal, raw, self, other)
     }
 
-    /// Returns for each row whether it is equal to the scalar; `false` for nulls.
+    /// Returns a bit for each row: 1 if the row is equal to the scalar `other`. The bit of a null
+    /// row is 0.
     final fn tot_eq_missing_kernel_broadcast(
         &self,
         alloc: Global,
@@ -156,7 +162,8 @@ pub trait TotalEqKernel: Sized + Array {
         join_scalar(alloc, Relation::Equal, raw, self)
     }
 
-    /// Returns for each row whether it differs from the scalar; `true` for nulls.
+    /// Returns a bit for each row: 1 if the row differs from the scalar `other`. The bit of a null
+    /// row is 1.
     final fn tot_ne_missing_kernel_broadcast(
         &self,
         alloc: Global,

@@ -1,4 +1,4 @@
-//! Equality of arrays of lists between offsets (`ListArray`).
+//! Equality of `ListArray`s.
 
 ghost use Rattle.std.specs.Prelude.{◌≡◌, true};
 ghost use Rattle.polars_arrays_nested.specs.GoodParts.{IsGood};

@@ -44,8 +44,8 @@ impl<T: NativeType + 'static> TotalEqKernel for PrimitiveArray<T> {
         compare_number_windows(alloc, &Unequal, self, 0, other, 0, self.len())
     }
 
-    // Overrides the default, which first stores a bitmap of the raw results. If both arrays have
-    // nulls, each word of 64 results is combined with the masks before it is stored.
+    // Overrides the default, which first stores a bitmap of the raw results. Here, if both arrays
+    // have a mask, each word of 64 results is combined with the masks before it is stored.
     fn tot_eq_missing_kernel(&self, alloc: Global, other: &Self) -> Result<Bitmap, ComputeError> {
         let left_mask = self.missing_mask(alloc)?;
         let right_mask = other.missing_mask(alloc)?;

@@ -1,4 +1,4 @@
-//! Equality of arrays of texts between offsets (`Utf8Array`).
+//! Equality of `Utf8Array`s.
 
 ghost use Rattle.std.specs.Prelude.{◌≡◌, true, length, string_bytes, ⊤};
 ghost use Rattle.polars_arrays_bytes.specs.OffsetStrings.{offset_strings};

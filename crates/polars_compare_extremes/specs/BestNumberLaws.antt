@@ -1,4 +1,4 @@
--- Choosing the better of two numbers is a fold, with any number as the first.
+-- The better of two numbers is an operator for folds (`Folds`), which may start with any number.
 use Rattle.std.specs.Prelude.{◌≡◌, ℤ, Bool, true, false, cond, int_lt, refl}
 use Rattle.std.specs.declared.cmp.Ordering.TheVariants.{Less, Equal, Greater}
 use Rattle.std.proofs.Common.{sym, ap, ◌∙◌}
@@ -33,12 +33,12 @@ module _ (better : Row → Row → Bool) (law : Prefers Int better)
     order-by m n false false e f = ap
         (λ b. cond b n m) e ∙ same m n f e ∙ sym (ap (λ b. cond b m n) f)
 
-    -- better than b, which is better than a
+    -- if b is better than a, and c is better than b, then c is better than a
     through : (a b c : ℤ) → better (Int b) (Int a) ≡ true → better (Int c) (Int b) ≡ true
         → better (Int c) (Int a) ≡ true
     through a b c e f = law.passes b c a f (law.one_way b a e)
 
-    -- not better than b, which is not better than a
+    -- if b is not better than a, and c is not better than b, then c is not better than a
     not-through : (a b c : ℤ) → better (Int b) (Int a) ≡ false → better (Int c) (Int b) ≡ false
         → better (Int c) (Int a) ≡ false
     not-through a b c e f = refuted (better (Int c) (Int a))

@@ -8,7 +8,8 @@ use Rattle.polars_compare_leaves.specs.Order.{row_less, row_greater}
 abbrev pub NonePresent : List Row → Type 0
 NonePresent rows = (k : ℕ) → k < length rows → row rows k ≡ Null
 
--- row `place` is the first best row: present, no present row better, and better than all before it
+-- row `place` is the first best row: it is present, no present row is better, and it is better than
+-- each present row before it
 pub record IsBest (better : Row → Row → Bool) (rows : List Row) (place : ℕ) : Type 0 where
   pub within : place < length rows
   pub present : row rows place ≢ Null

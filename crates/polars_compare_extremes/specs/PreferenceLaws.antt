@@ -21,7 +21,7 @@ module _ {A : Type 0} {R : A → A → Ordering} (total : IsTotalOrder R) where
   one_way : (x y : A) → is_lt (R x y) ≡ true → is_lt (R y x) ≡ false
   one_way x y h = ap is_lt (total.antisymm y x ∙ ap ordering_reverse (is_less (R x y) h))
 
-  -- what is less than x is less than all that are not less than x
+  -- if y is less than x, and z is not less than x, then y is less than z
   least_passes : (x y z : A) (o : Ordering) → R z x ≡ o → is_lt (R y x) ≡ true → is_lt o ≡ false
       → is_lt (R y z) ≡ true
   least_passes x y z Less e h g = cc
@@ -31,7 +31,7 @@ module _ {A : Type 0} {R : A → A → Ordering} (total : IsTotalOrder R) where
   least_passes x y z Greater e h g =
       ap is_lt (total.trans y x z (is_less (R y x) h) (total.antisymm x z ∙ ap ordering_reverse e))
 
-  -- what is greater than x is greater than all that are not greater than x
+  -- if y is greater than x, and z is not greater than x, then y is greater than z
   greatest_passes : (x y z : A) (o : Ordering) → R x z ≡ o → is_lt (R x y) ≡ true → is_lt o ≡ false
       → is_lt (R z y) ≡ true
   greatest_passes x y z Less e h g = cc

@@ -23,12 +23,12 @@ use Rattle.polars_compare_extremes.specs.declared.scalar.AnyScalar.TheVariants.{
 use Rattle.polars_compare_extremes.specs.declared.scalar.AnyScalar.TheVariants.{BinaryView}
 use Rattle.polars_compare_extremes.specs.declared.scalar.AnyScalar.TheVariants.{Utf8View}
 
--- the test of whether a row is a better extreme than another
+-- true if the first row is a better extreme than the second
 abbrev pub better_of : Extreme → Row → Row → Bool
 better_of Least = row_less
 better_of Greatest = row_greater
 
--- whether an array of this kind has extremes: its rows have an order
+-- true if an array of this kind has extremes, since its rows have an order
 abbrev pub has_extremes : Kind → Bool
 has_extremes BooleanKind = true
 has_extremes Int8Kind = true
@@ -69,7 +69,7 @@ scalar_kind (LargeUtf8 text) = LargeUtf8Kind
 scalar_kind (BinaryView bytes) = BinaryViewKind
 scalar_kind (Utf8View text) = Utf8ViewKind
 
--- the row of a scalar
+-- the row that a scalar stands for
 abbrev pub scalar_row : AnyScalar → Row
 scalar_row (Boolean bit) = Truth bit
 scalar_row (Int8 n) = Int n
@@ -89,14 +89,16 @@ scalar_row (LargeUtf8 text) = Bytes text.now
 scalar_row (BinaryView bytes) = Bytes bytes.now
 scalar_row (Utf8View text) = Bytes text.now
 
--- an extreme of rows of this kind: a scalar of that kind that is the best row, or none
+-- `found` is the extreme of the rows: the best row, as a scalar of this kind, or None if no row is
+-- present
 abbrev pub IsExtreme : Extreme → Kind → List Row → Option AnyScalar → Type 0
 IsExtreme extreme kind rows found =
     MatchOption found (NonePresent rows)
     (λ scalar. (scalar_kind scalar ≡ kind)
     × FindsBest (better_of extreme) rows (scalar_row scalar))
 
--- both extremes of rows of this kind
+-- `found` has the least and the greatest row, as scalars of this kind, or is None if no row is
+-- present
 abbrev pub AreExtremes : Kind → List Row → Option (AnyScalar × AnyScalar) → Type 0
 AreExtremes kind rows found =
     MatchOption found (NonePresent rows)

@@ -1,5 +1,4 @@
-//! The least and the greatest row of arrays of byte strings and of texts between offsets
-//! (`BinaryArray`, `Utf8Array`).
+//! The least and the greatest row of `BinaryArray`s and of `Utf8Array`s.
 
 use crate::borrowed::{BytesMinMaxKernel, TextMinMaxKernel};
 use crate::places::{best_place, best_string};

@@ -29,8 +29,9 @@ pub(crate) enum Extreme {
     Greatest,
 }
 
-// Calls the method of the array that finds the extreme. The call of `validity` has no effect at run
-// time: it tells the proof that the validity has a bit for each row.
+// Returns the least or the greatest present row of `$array`, as `$extreme` says, or `None` if no
+// row is present. `validity` is called for the proof alone: by its contract, the validity has a bit
+// for each row.
 macro_rules! extreme_of {
     ($array:expr, $extreme:expr) => {{
         let _validity = $array.validity();

@@ -1,6 +1,5 @@
 //! The least and the greatest number of an array or a slice. The present numbers are folded by the
-//! operator "the lesser of two" or "the greater of two", which starts with the first present
-//! number.
+//! operator "the lesser of two" or "the greater of two", starting with the first present number.
 
 ghost use Rattle.std.specs.Option.{option_copied};
 ghost use Rattle.std.specs.Prelude.{◌≡◌, ℤ, Bool, length, MatchOption};
@@ -29,8 +28,8 @@ trait BestFrom<T: NativeType>: Operator<T> + Drop {
     // Relation of two rows: the first is better than the second.
     ghost better: { Row → Row → Bool };
 
-    // Laws of the relation. No two rows are each better than the other. If y is better than x, and
-    // z is not better than x, then y is better than z.
+    // Laws of the relation. Of two numbers, at most one is better than the other. For all x, y and
+    // z: if y is better than x, and z is not better than x, then y is better than z.
     ghost preference_law: { Prefers Int better };
 
     /// Creates the operator. Its folds start with `first`.
@@ -140,7 +139,7 @@ impl<T: NativeType> BestFrom<T> for GreatestFrom<T> {
 }
 
 // Returns the best of the present numbers by the operator `B`, or `None` if no number is present.
-// `present` has a bit for each number; without it all numbers are present.
+// `present` has a bit for each number, or is `None` if all numbers are present.
 fn best_number<T: NativeType, B: BestFrom<T>>(numbers: &[T], present: Option<&Bitmap>) -> Option<T>
     requires { HasBits (length numbers.now) (option_copied present) }
     ensures { MatchOption result
@@ -175,7 +174,7 @@ fn ends_of_all<T: NativeType>(numbers: &[T]) -> Option<(T, T)>
 }
 
 // Returns the least and the greatest of the present numbers, or `None` if no number is present.
-// `present` has a bit for each number; without it all numbers are present.
+// `present` has a bit for each number, or is `None` if all numbers are present.
 fn ends<T: NativeType>(numbers: &[T], present: Option<&Bitmap>) -> Option<(T, T)>
     requires { HasBits (length numbers.now) (option_copied present) }
     ensures { MatchOption result

@@ -14,7 +14,7 @@ use polars_arrays_flat::byte_rows::ByteRows;
 use polars_arrays_flat::validity::is_present;
 
 // Returns the index of the first present row among `n` rows, or `None` if no row is present.
-// Without `present` all rows are present.
+// `present` has a bit for each row, or is `None` if all rows are present.
 pub(crate) fn first_present(present: Option<&Bitmap>, n: usize) -> Option<usize>
     requires { HasBits n (option_copied present) }
     ensures { MatchOption result
@@ -29,8 +29,9 @@ pub(crate) fn first_present(present: Option<&Bitmap>, n: usize) -> Option<usize>
     None
 }
 
-// Returns the index of the best present byte string by `preference`. If several are equally good,
-// returns the index of the first of them. `first` is the index of the first present row.
+// Returns the index of the best present byte string of `rows` by `preference`. If several are
+// equally good, returns the index of the first of them. `present` has a bit for each row, or is
+// `None` if all rows are present. `first` is the index of the first present row.
 fn best_from<P: Preference, R: ByteRows>(
     preference: &P,
     rows: &R,
@@ -55,9 +56,9 @@ fn best_from<P: Preference, R: ByteRows>(
     place
 }
 
-/// Returns the index of the best present byte string by `preference`, or `None` if no row is
-/// present. If several are equally good, returns the index of the first of them. `present` has a
-/// bit for each row; without it all rows are present.
+/// Returns the index of the best present byte string of `rows` by `preference`, or `None` if no row
+/// is present. If several are equally good, returns the index of the first of them. `present` has a
+/// bit for each row, or is `None` if all rows are present.
 pub fn best_place<P: Preference, R: ByteRows>(
     preference: &P,
     rows: &R,
@@ -81,7 +82,7 @@ pub fn best_place<P: Preference, R: ByteRows>(
 }
 
 /// Returns the best present byte string by `preference`, borrowed from `rows`, or `None` if no row
-/// is present. `present` has a bit for each row; without it all rows are present.
+/// is present. `present` has a bit for each row, or is `None` if all rows are present.
 pub fn best_string<'a, P: Preference, R: ByteRows>(
     preference: &P,
     rows: &'a R,

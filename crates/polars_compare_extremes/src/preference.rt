@@ -30,8 +30,8 @@ pub trait Preference: ByteComparison {
             ≡ Self.ByteComparison.rows (string_row (view_strings array.now) i)
             (string_row (view_strings array.now) j) };
 
-    // Laws of the relation. No two byte strings are each better than the other. If y is better than
-    // x, and z is not better than x, then y is better than z.
+    // Laws of the relation. Of two byte strings, at most one is better than the other. For all x, y
+    // and z: if y is better than x, and z is not better than x, then y is better than z.
     ghost preference_law: { Prefers Bytes Self.ByteComparison.rows };
 }
 

@@ -19,9 +19,9 @@ use polars_arrays_numbers::steps::Steps;
 use polars_arrays_views::binary_view::BinaryViewArray;
 use polars_arrays_views::rows::row_less;
 
-/// Returns whether row `i` is less than row `j`. If row `i` has the greater prefix (first four
-/// bytes), the result is `false`, and nothing else is compared. In a search for the least or
-/// greatest row this is the case for most rows.
+/// Returns whether row `i` of `array` is less than row `j`. If row `i` has the greater prefix
+/// (first four bytes), the result is `false`, and nothing else is compared. In a search for the
+/// least or greatest row this is often the case.
 #[inline(always)]
 pub(crate) fn less_by_prefix(array: &BinaryViewArray, i: usize, j: usize) -> bool
     requires row { i < length array.now.views }
@@ -36,8 +36,9 @@ pub(crate) fn less_by_prefix(array: &BinaryViewArray, i: usize, j: usize) -> boo
     row_less(array, i, array, j, &mut Steps::new())
 }
 
-// Returns the index of the best present row by `preference`. If several are equally good, returns
-// the index of the first of them. `first` is the index of the first present row.
+// Returns the index of the best present row of `array` by `preference`. If several are equally
+// good, returns the index of the first of them. `present` has a bit for each row, or is `None` if
+// all rows are present. `first` is the index of the first present row.
 #[tactic(auto, using(crate::proofs::Lent::lends))]
 fn best_view_from<P: Preference>(
     preference: &P,
@@ -61,9 +62,9 @@ fn best_view_from<P: Preference>(
     place
 }
 
-/// Returns the index of the best present row by `preference`, or `None` if no row is present. If
-/// several are equally good, returns the index of the first of them. `present` has a bit for each
-/// row; without it all rows are present.
+/// Returns the index of the best present row of `array` by `preference`, or `None` if no row is
+/// present. If several are equally good, returns the index of the first of them. `present` has a
+/// bit for each row, or is `None` if all rows are present.
 pub(crate) fn best_view_place<P: Preference>(
     preference: &P,
     array: &BinaryViewArray,
@@ -84,8 +85,8 @@ pub(crate) fn best_view_place<P: Preference>(
     }
 }
 
-/// Returns the best present row by `preference`, borrowed from the array, or `None` if no row is
-/// present. `present` has a bit for each row; without it all rows are present.
+/// Returns the best present row by `preference`, borrowed from `array`, or `None` if no row is
+/// present. `present` has a bit for each row, or is `None` if all rows are present.
 #[tactic(auto, using(crate::proofs::Lent::lends))]
 pub(crate) fn best_view<'a, P: Preference>(
     preference: &P,

@@ -48,13 +48,14 @@ LeafBits agree left a right b n =
 abbrev pub LeafWord : (Row → Row → Bool) → AnyArray → ℕ → AnyArray → ℕ → ℕ → ℕ → Type 0
 LeafWord agree left a right b n word = LeafBits agree left a right b n (first_of (is_bit word) n)
 
--- each bit is set if it was and its bit of `same` is, for some bits `same` for which `Bits` holds
+-- `new` is `old` AND some bits `same` for which `Bits` holds
 pub record JoinsBits (Bits : List Bool → Type 0) (old new : List Bool) : Type 0 where
   pub same : List Bool
   pub told : Bits same
   pub joined : new ≡ zip2 ◌&&◌ old same
 
--- each bit is set if it was and the two leaf rows at its place agree; arbitrary if one is null
+-- each bit is cleared if the two leaf rows at its place do not agree; if a row is masked, the bit
+-- may be cleared or not
 abbrev pub JoinsLeafBits : (Row → Row → Bool) → AnyArray → ℕ → AnyArray → ℕ → List Bool → List Bool
     → Type 0
 JoinsLeafBits agree left a right b old = JoinsBits (LeafBits agree left a right b (length old)) old
@@ -65,7 +66,7 @@ pub record PresentBit (agree : Row → Row → Bool) (left : ℕ → Row) (left_
   pub at_present : IsTrue (is_present left_mask a) × IsTrue (is_present right_mask b) → bit
       ≡ agree (left a) (right b)
 
--- a bit of two leaf rows
+-- if two leaf rows are both present, the bit says whether they agree
 abbrev pub LeafBit : (Row → Row → Bool) → AnyArray → ℕ → AnyArray → ℕ → Bool → Type 0
 LeafBit agree left a right b =
     PresentBit agree (row left) (mask_of left) a (row right) (mask_of right) b

@@ -13,7 +13,7 @@ pub record AreKnown (l : ListArray) (a : ℕ) (r : ListArray) (b n : ℕ) (match
   pub within : matches.len ≤ n
   pub tell : TellMatches l a r b matches.len matches.word
 
--- the number of lists decided at once
+-- the number of pairs of lists in a result of `next_rows`
 abbrev pub row_total : NextRows → ℕ
 row_total Apart = 1
 row_total (Run run) = run.len

@@ -6,7 +6,7 @@ use Rattle.polars_arrays_flat.specs.Kind.{UInt64Kind, UInt128Kind, BinaryKind, L
 use Rattle.polars_arrays_flat.specs.Kind.{Utf8Kind, LargeUtf8Kind, BinaryViewKind, Utf8ViewKind}
 use Rattle.polars_arrays_flat.specs.Kind.{FixedSizeBinaryKind}
 
--- whether arrays of this kind have leaves as rows: they hold no array, and are not of nulls
+-- true for kinds of arrays whose rows are leaves: they hold no other array, and are not null arrays
 abbrev pub is_leaf : Kind → Bool
 is_leaf BooleanKind = true
 is_leaf Int8Kind = true

@@ -14,7 +14,7 @@ use Rattle.polars_compare_nested.specs.declared.runs.ItemRun.{ItemRun}
 use Rattle.polars_compare_nested.specs.declared.runs.NextRows.{NextRows}
 use Rattle.polars_compare_nested.specs.declared.runs.NextRows.TheVariants.{Apart, Run}
 
--- place i; the offsets must be good
+-- place i, or 0 if there is none
 abbrev pub start_of : List (Option ℕ) → ℕ → ℕ
 start_of all i = place_or_zero (place_at all i)
 
@@ -43,7 +43,7 @@ abbrev pub same_counts : List (Option ℕ) → ℕ → List (Option ℕ) → ℕ
 same_counts all a others b n = first_of
     (λ i. eqb (span_between all (a + i)) (span_between others (b + i))) n
 
--- whether each of n lists from list a on has `width` items
+-- for each of n lists from list a on, whether it has `width` items
 abbrev pub lists_of_width : List (Option ℕ) → ℕ → ℕ → ℕ → List Bool
 lists_of_width all a n width = first_of (λ i. eqb (span_between all (a + i)) width) n
 
@@ -75,7 +75,7 @@ abbrev pub AreNext : ListArray → ℕ → ListArray → ℕ → ℕ → NextRow
 AreNext l a r b n Apart = is_match l a r b ≡ false
 AreNext l a r b n (Run run) = IsRun l a r b n run
 
--- whether all items of list k have their bits set; the first bit is that of item `from`
+-- true if all items of list k have their bits set; the first bit is that of item `from`
 abbrev pub all_items : List Bool → List (Option ℕ) → ℕ → ℕ → Bool
 all_items items all from k = list_all
     (λ b. b) (window (start_of all k - from) (span_between all k) items)

@@ -30,7 +30,7 @@ pair_tally items offsets validity offsets' validity' i j =
     (items (offset_at offsets i) (offset_at offsets' j) (span offsets i))
     0
 
--- the cost of rows i and j of two dictionaries: `entries` of their entries if present, else 0
+-- the cost of keys i and j of two dictionaries: `entries` of their entries, or 0 if a key is null
 abbrev pub entry_tally : (ℕ → ℕ → ℕ → ℕ) → DictKeys → DictKeys → ℕ → ℕ → ℕ
 entry_tally entries keys keys' i j =
     cond (is_present (key_validity keys) i && is_present (key_validity keys') j)
@@ -38,8 +38,8 @@ entry_tally entries keys keys' i j =
 
 abbrev mutual
   -- the cost of n rows from row a on of one array and row b on of another: one for a pair of
-  -- leaves, none for nulls, the sum over pairs of rows for lists and dictionaries, that of all
-  -- items for lists of one width, and the sum over columns for structs
+  -- leaves, none for null arrays, the sum over pairs of rows for lists and dictionaries, that of
+  -- all items for lists of one width, and the sum over columns for structs
   pub tally : AnyArray → AnyArray → ℕ → ℕ → ℕ → ℕ
   tally (List' offsets p values validity) (List' offsets' p' values' validity') a b n =
       total_pairs (pair_tally

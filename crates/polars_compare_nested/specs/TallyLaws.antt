@@ -71,7 +71,7 @@ abbrev pub TallyIsKept : Type 0
 TallyIsKept = (x y other : AnyArray) (a a' b n : ℕ) → KeptAlike x y a a' n → tally x other a b n
     ≡ tally y other a' b n
 
--- a slice has the tally of the same rows before
+-- a slice has the tally of the same rows of its original
 abbrev pub TallyOfCut : Type 0
 TallyOfCut =
     (x y other : AnyArray) (at n : ℕ) → IsCut x y at n → (i m b : ℕ) → i + m ≤ n

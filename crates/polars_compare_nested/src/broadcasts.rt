@@ -53,7 +53,8 @@ fn are_all_rows(
 
 /// Returns a bit for each list: 1 if its items are exactly the rows of `rows`, in order. For
 /// example, with the rows 1 and 2, the list `[1, 2]` gives 1, and `[1]` and `[2, 1]` give 0. Null
-/// lists are compared by their stored items. The error is `Memory`.
+/// lists are compared by their stored items. A null item is equal to null alone. The error is
+/// `Memory`.
 pub fn list_broadcast(
     alloc: Global,
     lists: &ListArray,
@@ -78,7 +79,8 @@ pub fn list_broadcast(
 }
 
 /// Returns a bit for each list of fixed size: 1 if its items are exactly the rows of `rows`, in
-/// order. Null lists are compared by their stored items. The error is `Memory`.
+/// order. Null lists are compared by their stored items. A null item is equal to null alone. The
+/// error is `Memory`.
 pub fn fixed_size_list_broadcast(
     alloc: Global,
     lists: &FixedSizeListArray,

@@ -14,7 +14,7 @@ use polars_arrays_nested::fixed_size_list::FixedSizeListArray;
 use polars_arrays_nested::list::ListArray;
 use polars_arrays_nested::struct_array::StructArray;
 
-/// Returns the array inside an `AnyArray`, which must be of the given kind.
+/// Returns the array inside `$array`, an `AnyArray` that must be of the kind `$kind`.
 macro_rules! downcast {
     ($array:expr, $kind:ident) => {
         match $array {
@@ -26,7 +26,7 @@ macro_rules! downcast {
 
 pub(crate) use downcast;
 
-/// Returns the list array inside. The array must be a list array.
+/// Returns the `ListArray` inside `array`, which must be of the kind `List`.
 #[inline]
 pub(crate) fn as_list(array: &AnyArray) -> &ListArray
     requires { IsTrue (is_list (type_of array.now)) }
@@ -35,7 +35,7 @@ pub(crate) fn as_list(array: &AnyArray) -> &ListArray
     downcast!(array, List)
 }
 
-/// Returns the fixed-size list array inside. The array must be a fixed-size list array.
+/// Returns the `FixedSizeListArray` inside `array`, which must be of the kind `FixedSizeList`.
 #[inline]
 pub(crate) fn as_fixed_size_list(array: &AnyArray) -> &FixedSizeListArray
     requires { IsTrue (is_fixed_list (type_of array.now)) }
@@ -44,7 +44,7 @@ pub(crate) fn as_fixed_size_list(array: &AnyArray) -> &FixedSizeListArray
     downcast!(array, FixedSizeList)
 }
 
-/// Returns the struct array inside. The array must be a struct array.
+/// Returns the `StructArray` inside `array`, which must be of the kind `Struct`.
 #[inline]
 pub(crate) fn as_struct(array: &AnyArray) -> &StructArray
     requires { IsTrue (is_struct (type_of array.now)) }
@@ -53,7 +53,7 @@ pub(crate) fn as_struct(array: &AnyArray) -> &StructArray
     downcast!(array, Struct)
 }
 
-/// Returns the dictionary array inside. The array must be a dictionary array.
+/// Returns the `DictionaryArray` inside `array`, which must be of the kind `Dictionary`.
 #[inline]
 pub(crate) fn as_dictionary(array: &AnyArray) -> &DictionaryArray
     requires { IsTrue (is_dictionary (type_of array.now)) }

@@ -27,7 +27,7 @@ pub(crate) struct EntryPair {
 }
 
 /// Returns the indices of the entries that row `i` of one array and row `j` of the other refer to,
-/// or `None` if one of the two keys is null.
+/// or `None` if at least one of the two keys is null.
 #[inline]
 pub(crate) fn row_entries(
     left: &DictionaryArray,
@@ -51,8 +51,9 @@ pub(crate) fn row_entries(
     }
 }
 
-/// The keys of at most 64 adjacent rows of a dictionary array, read at once: of `count` rows from
-/// row `at` on. Bit `i` of `present` is 1 if key `i` is not null.
+/// The keys of `count` rows of a dictionary array, at most 64, from row `at` on. Bit `k` of
+/// `present` is 1 if key `at + k` is not null. `keys[k]` is key `at + k` as the index of an entry,
+/// or 0 if the key is negative.
 #[derive(Drop)]
 pub(crate) struct KeyBlock<'a> {
     pub(crate) array: &'a DictionaryArray,
@@ -102,7 +103,7 @@ impl<'a> KeyBlock<'a> {
 }
 
 // Returns `n` keys from index `at` on as indices of entries, or 0 in place of a negative key. `n`
-// is at most 64; the elements after them are unspecified.
+// is at most 64; the elements after the first `n` are unspecified.
 #[inline(always)]
 #[tactic(auto, using(polars_arrays_nested::proofs::Places::places_of))]
 fn keys_from(keys: &DictKeys, at: usize, n: usize) -> [usize; WORD_BITS]
@@ -123,7 +124,7 @@ fn keys_from(keys: &DictKeys, at: usize, n: usize) -> [usize; WORD_BITS]
 }
 
 // Returns `n` keys from index `at` on as indices of entries, or 0 in place of a negative key. `n`
-// is at most 64; the elements after them are unspecified.
+// is at most 64; the elements after the first `n` are unspecified.
 #[inline(always)]
 #[tactic(auto, using(polars_arrays_nested::proofs::Places::places_of))]
 fn places_from<K: DictionaryKey>(keys: &[K], at: usize, n: usize) -> [usize; WORD_BITS]
@@ -157,8 +158,8 @@ fn has_bit(word: u64, i: usize) -> bool
     (word >> i) & 1 == 1
 }
 
-/// Returns the indices of the entries that key `k` of each of two blocks refers to, or `None` if
-/// one of the two keys is null.
+/// Returns the indices of the entries that key `k` of each of two blocks refers to, or `None` if at
+/// least one of the two keys is null.
 #[inline(always)]
 pub(crate) fn block_entries(left: &KeyBlock, right: &KeyBlock, k: usize) -> Option<EntryPair>
     requires left_good { IsGood (Dictionary left.now.array.now) }
@@ -180,7 +181,7 @@ pub(crate) fn block_entries(left: &KeyBlock, right: &KeyBlock, k: usize) -> Opti
     }
 }
 
-// Does nothing at run time. Tells the proof that the key of a present row is the index of an entry.
+// Does nothing at run time. For the proof: a key that is not null is the index of an entry.
 #[inline(always)]
 fn law_entry(_array: &DictionaryArray, _i: usize)
     requires good { IsGood (Dictionary _array.now) }

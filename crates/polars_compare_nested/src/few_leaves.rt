@@ -44,8 +44,8 @@ pub(crate) fn are_leaves(left: &AnyArray, right: &AnyArray) -> bool
     has_leaves(left) && !left.may_have_nulls() && !right.may_have_nulls()
 }
 
-/// Returns whether two windows of `n` rows consist of at most 64 leaves without nulls each.
-/// `leaves` says that the rows of both arrays are leaves without nulls.
+/// Returns whether two windows of `n` rows consist of at most 64 leaves without nulls each. If
+/// `leaves` is true, the rows of both arrays must be leaves without nulls.
 #[inline(always)]
 pub(crate) fn are_few_leaves(_left: &AnyArray, _right: &AnyArray, leaves: bool, n: usize) -> bool
     requires leaves { IsTrue leaves → AreLeavesWithoutNulls _left.now _right.now }
@@ -56,7 +56,7 @@ pub(crate) fn are_few_leaves(_left: &AnyArray, _right: &AnyArray, leaves: bool, 
 
 /// Compares two windows of at most 64 leaves without nulls by `steps`. Bit `i` of the result is 1
 /// if row `a + i` of the left array and row `b + i` of the right one are the same. The count of
-/// `steps` increases by `n`. The error is `Memory`.
+/// `steps` increases by `n`. The error is `Memory`; the count may have increased by then.
 #[inline(always)]
 pub(crate) fn same_few<K: LeafKernel>(
     alloc: Global,

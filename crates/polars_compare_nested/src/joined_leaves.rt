@@ -36,9 +36,9 @@ macro_rules! join_leaves {
     };
 }
 
-/// Compares the leaves of two windows, and clears the bits of unequal leaves. Bit `i` is that of
-/// row `a + i` of the left array and row `b + i` of the right one. If a row is masked on either
-/// side, a bit of 1 may become 0 or stay 1. The error is `Memory`; numbers need no memory.
+/// Clears each bit `i` of `bits` for which row `a + i` of the left array and row `b + i` of the
+/// right one are not equal. If a row is masked on either side, a bit of 1 may become 0 or stay 1.
+/// The error is `Memory`; numbers need no memory.
 #[tactic(auto, using(crate::proofs::Strings::counts, crate::proofs::Cases::cases))]
 #[inline]
 pub(crate) fn and_leaf_windows(
@@ -62,8 +62,8 @@ pub(crate) fn and_leaf_windows(
     )
 }
 
-// Compares the leaves of two windows, and clears the bits of unequal leaves. Works for leaves of
-// any kind, and allocates a bitmap of the results. The error is `Memory`.
+// Clears the same bits as `and_leaf_windows`, for leaves of any kind. Allocates a bitmap of the
+// results. The error is `Memory`.
 fn and_by_bitmap(
     alloc: Global,
     bits: &mut MutableBitmap,
@@ -85,7 +85,8 @@ fn and_by_bitmap(
     Ok(())
 }
 
-// Compares the numbers of two windows, and clears the bits of unequal numbers.
+// Clears each bit `i` of `bits` for which number `a + i` of the left array and number `b + i` of
+// the right one are not equal.
 fn and_numbers<T: NativeType>(
     bits: &mut MutableBitmap,
     left: &PrimitiveArray<T>,

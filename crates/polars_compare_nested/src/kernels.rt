@@ -19,17 +19,18 @@ use polars_arrays_nested::any_array::AnyArray;
 use polars_arrays_numbers::steps::Steps;
 use std::alloc::Global;
 
-/// Returns which rows of two arrays of the same type and length are the same. Null is the same as
-/// null alone. Two leaves are the same if `steps` says so. `steps` is any `LeafKernel`, for example
-/// the counter `Steps`, which compares leaves by equality and counts the leaves compared.
+/// Returns a bit for each index `i`: 1 if row `i` of `left` and row `i` of `right` are the same.
+/// Both arrays have the same type and length. Null is the same as null alone. Two leaves are the
+/// same if `steps` says so. `steps` is any `LeafKernel`, for example the counter `Steps`, which
+/// compares leaves by equality and counts the leaves compared.
 ///
 /// If `steps` compares leaves by equality, as `Steps` does, a bit is 1 exactly if the two rows are
 /// the same tree.
 ///
-/// On `Ok` the count of `steps` has increased by one for each leaf slot of the left array that was
-/// compared. That is at most the number of leaf slots of either array, where the leaves of a
-/// dictionary's entry count once for each present row that refers to it. The error is `Memory`; the
-/// count may have increased by then.
+/// On `Ok`, the count of `steps` has increased by one for each comparison of two leaves. That is at
+/// most the number of leaf slots of either array, where the leaves of a dictionary's entry count
+/// once for each non-null key that refers to it. The error is `Memory`; the count may have
+/// increased by then.
 #[tactic(auto, using(crate::proofs::Headline::bounds))]
 pub fn array_tot_eq_missing_kernel_counted<K: LeafKernel>(
     alloc: Global,
@@ -56,9 +57,10 @@ pub fn array_tot_eq_missing_kernel_counted<K: LeafKernel>(
     equal_windows(alloc, left, 0, right, 0, left.len(), steps)
 }
 
-/// Returns which rows of two arrays of the same type and length differ: the complement of the
-/// result of `array_tot_eq_missing_kernel_counted`. The same leaves are compared by `steps` and
-/// counted. The error is `Memory`; the count may have increased by then.
+/// Returns a bit for each index `i`: 1 if row `i` of `left` and row `i` of `right` differ. Both
+/// arrays have the same type and length. This is the complement of the result of
+/// `array_tot_eq_missing_kernel_counted`. `steps` compares and counts the same leaves as there. The
+/// error is `Memory`; the count may have increased by then.
 #[tactic(auto, using(crate::proofs::Headline::bounds))]
 pub fn array_tot_ne_missing_kernel_counted<K: LeafKernel>(
     alloc: Global,
@@ -86,13 +88,14 @@ pub fn array_tot_ne_missing_kernel_counted<K: LeafKernel>(
     same.not(alloc)
 }
 
-/// Returns which rows of two arrays of the same type and length are the same tree. Null is the same
-/// as null alone. `steps` counts the comparisons of leaves.
+/// Returns a bit for each index `i`: 1 if row `i` of `left` and row `i` of `right` are the same
+/// tree. Both arrays have the same type and length. Null is the same as null alone. `steps` counts
+/// the comparisons of leaves.
 ///
-/// On `Ok` the count has increased by one for each leaf slot of the left array that was compared.
-/// That is at most the number of leaf slots of either array, where the leaves of a dictionary's
-/// entry count once for each present row that refers to it. The error is `Memory`; the count may
-/// have increased by then.
+/// On `Ok`, the count has increased by one for each comparison of two leaves. That is at most the
+/// number of leaf slots of either array, where the leaves of a dictionary's entry count once for
+/// each non-null key that refers to it. The error is `Memory`; the count may have increased by
+/// then.
 #[tactic(auto, using(crate::proofs::Headline::bounds))]
 pub fn array_tot_eq_missing_kernel_with_steps(
     alloc: Global,
@@ -116,9 +119,9 @@ pub fn array_tot_eq_missing_kernel_with_steps(
     equal_windows(alloc, left, 0, right, 0, left.len(), steps)
 }
 
-/// Returns which rows of two arrays of the same type and length are equal. Nested rows are equal if
-/// they are the same tree: if all their items or fields are equal. Null is equal to null alone. The
-/// error is `Memory`.
+/// Returns a bit for each index `i`: 1 if row `i` of `left` and row `i` of `right` are equal. Both
+/// arrays have the same type and length. Nested rows are equal if they are the same tree: if all
+/// their items or fields are equal. Null is equal to null alone. The error is `Memory`.
 pub fn array_tot_eq_missing_kernel(
     alloc: Global,
     left: &AnyArray,
@@ -136,9 +139,9 @@ pub fn array_tot_eq_missing_kernel(
     array_tot_eq_missing_kernel_with_steps(alloc, left, right, &mut Steps::new())
 }
 
-/// Returns which rows of two arrays of the same type and length differ. Nested rows differ if they
-/// are not the same tree: if some of their items or fields differ. Null is equal to null alone. The
-/// error is `Memory`.
+/// Returns a bit for each index `i`: 1 if row `i` of `left` and row `i` of `right` differ. Both
+/// arrays have the same type and length. Nested rows differ if they are not the same tree: if some
+/// of their items or fields differ. Null is equal to null alone. The error is `Memory`.
 pub fn array_tot_ne_missing_kernel(
     alloc: Global,
     left: &AnyArray,

@@ -21,10 +21,10 @@ use polars_arrays_words::words::WORD_BITS;
 use std::alloc::Global;
 
 /// Returns a bit for each `i` below `n`: 1 if key `a + i` of the left array and key `b + i` of the
-/// right one refer to leaves that are the same by `steps`. If a key is masked on either side, the
-/// bit is arbitrary. The count of `steps` increases by one for each pair of present keys. The error
-/// is `Memory`. Not inlined, so that the functions that recurse into nested arrays reserve no stack
-/// for the keys of a block.
+/// right one refer to leaves that are the same by `steps`. If a row is masked on either side, the
+/// bit is arbitrary. The count of `steps` increases by one for each pair of non-null keys. The
+/// error is `Memory`; the count may have increased by then. Not inlined, so that the functions that
+/// recurse into nested arrays reserve no stack for the keys of a block.
 #[inline(never)]
 pub(crate) fn eq_leaf_entries<K: LeafKernel>(
     alloc: Global,
@@ -61,10 +61,11 @@ pub(crate) fn eq_leaf_entries<K: LeafKernel>(
     Ok(bits.freeze())
 }
 
-// Appends a bit for each of `n` pairs of keys, at most 64: 1 if they refer to leaves that are the
-// same by `steps`. All keys are read before the first leaf is compared, so that reads of keys don't
-// wait for comparisons. If a key is masked on either side, the bit is arbitrary. The error is
-// `Memory`.
+// Appends a bit for each `i` below `n`, which is at most 64: 1 if key `a + i` of the left array and
+// key `b + i` of the right one refer to leaves that are the same by `steps`. If a row is masked on
+// either side, the bit is arbitrary. All keys are read before the first leaf is compared, so that
+// reads of keys don't wait for comparisons. The error is `Memory`; the count of `steps` may have
+// increased by then.
 fn push_block<K: LeafKernel>(
     alloc: Global,
     bits: &mut BitmapBuilder,
@@ -97,8 +98,9 @@ fn push_block<K: LeafKernel>(
     Ok(())
 }
 
-// Returns whether key `i` of two blocks refers to leaves that are the same by `steps`. If a key is
-// masked on either side, the result is arbitrary. The error is `Memory`.
+// Returns whether the keys `i` of two blocks refer to leaves that are the same by `steps`. If a row
+// is masked on either side, the result is arbitrary. The error is `Memory`; the count of `steps`
+// may have increased by then.
 #[inline(always)]
 fn equal_row<K: LeafKernel>(
     alloc: Global,
@@ -132,7 +134,8 @@ fn equal_row<K: LeafKernel>(
 }
 
 // Returns whether leaf `a` of the left array and leaf `b` of the right one are the same by `steps`.
-// If a leaf is masked on either side, the result is arbitrary. The error is `Memory`.
+// If a leaf is masked on either side, the result is arbitrary. The error is `Memory`; the count of
+// `steps` may have increased by then.
 #[inline(always)]
 fn equal_leaves<K: LeafKernel>(
     alloc: Global,

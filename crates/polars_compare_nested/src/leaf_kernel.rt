@@ -77,11 +77,11 @@ pub trait LeafKernel {
         Ok(BitMask::from_bitmap(&bits).few_bits(0, n))
     }
 
-    /// Clears the bits of leaves that don't agree. Bit `i` is that of row `a + i` of the left array
-    /// and row `b + i` of the right one. If a row is masked on either side, a bit of 1 may become 0
-    /// or stay 1. The count increases by the number of bits. The error is `Memory`; the count may
-    /// have increased by then. The default allocates a bitmap; an implementation that needs none
-    /// may override it.
+    /// Clears each bit `i` of `bits` for which row `a + i` of the left array and row `b + i` of the
+    /// right one don't agree. If a row is masked on either side, a bit of 1 may become 0 or stay 1.
+    /// The count increases by the number of bits. The error is `Memory`; the count may have
+    /// increased by then. The default allocates a bitmap; an implementation that needs none may
+    /// override it.
     fn leaf_and_eq(
         &mut self,
         alloc: Global,

@@ -85,8 +85,8 @@ fn same_number<T: NativeType>(
     Comparison::compare(&Equal, left[a], right[b])
 }
 
-// Returns whether byte string or text `a` of the left array is equal to `b` of the right one. The
-// arrays store their strings between offsets, or have strings of one size.
+// Returns whether byte string or text `a` of the left array is equal to byte string or text `b` of
+// the right one. The arrays store their strings between offsets, or have strings of one size.
 #[inline(always)]
 fn same_bytes<R: ByteRows>(left: &R, a: usize, right: &R, b: usize) -> bool
     requires left_in { a < length (R.strings left.now) }

@@ -82,7 +82,7 @@ pub(crate) fn eq_leaves(
     )
 }
 
-// Compares windows of `n` byte strings between offsets for equality. The error is `Memory`.
+// Returns the bits of `eq_leaves`, for byte strings between offsets. The error is `Memory`.
 #[tactic(auto, using(crate::proofs::Strings::counts))]
 #[inline]
 fn eq_strings<O: Offset>(
@@ -102,7 +102,7 @@ fn eq_strings<O: Offset>(
     compare_byte_windows(alloc, &Equal, &left.lent(), a, &right.lent(), b, n)
 }
 
-// Compares windows of `n` texts between offsets for equality. The error is `Memory`.
+// Returns the bits of `eq_leaves`, for texts between offsets. The error is `Memory`.
 #[inline]
 fn utf8_windows<O: Offset>(
     alloc: Global,
@@ -121,7 +121,7 @@ fn utf8_windows<O: Offset>(
     eq_strings(alloc, left.as_binary(), a, right.as_binary(), b, n)
 }
 
-// Compares windows of `n` byte strings of fixed size for equality. The error is `Memory`.
+// Returns the bits of `eq_leaves`, for byte strings of fixed size. The error is `Memory`.
 #[tactic(auto, using(crate::proofs::Strings::counts))]
 fn eq_sized_strings(
     alloc: Global,
@@ -140,7 +140,7 @@ fn eq_sized_strings(
     compare_sized_windows(alloc, &Equal, left, a, right, b, n)
 }
 
-// Compares windows of `n` texts in views for equality. The error is `Memory`.
+// Returns the bits of `eq_leaves`, for texts in views. The error is `Memory`.
 #[inline]
 fn text_windows(
     alloc: Global,
@@ -159,7 +159,7 @@ fn text_windows(
     eq_views(alloc, left.as_binview(), a, right.as_binview(), b, n)
 }
 
-// Compares windows of `n` byte strings in views for equality. The error is `Memory`.
+// Returns the bits of `eq_leaves`, for byte strings in views. The error is `Memory`.
 // `compare_view_windows` counts comparisons that read a buffer. That count is dropped, since this
 // crate counts comparisons of leaves.
 #[inline]

@@ -61,9 +61,8 @@ pub(crate) fn leaf_word(
     )
 }
 
-// Returns a word whose bit `i` is 1 if leaf `a + i` of the left array is equal to leaf `b + i` of
-// the right one, for leaves of any kind. Reads the word from a bitmap of the results. If a row is
-// masked on either side, the bit is arbitrary. The error is `Memory`.
+// Returns the word of `leaf_word`, for leaves of any kind. Reads the word from a bitmap of the
+// results. The error is `Memory`.
 fn word_of_windows(
     alloc: Global,
     left: &AnyArray,

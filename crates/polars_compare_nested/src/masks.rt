@@ -14,9 +14,10 @@ use polars_arrays_nested::any_array::AnyArray;
 use polars_compare_leaves::joining::{Relation, join_masks};
 use std::alloc::Global;
 
-/// Combines the raw bits of a comparison of two windows with their masks, and returns the bits of
-/// missing equality: two nulls are equal, and a null and a present row are not. If neither array
-/// can have nulls, returns `raw` and computes no mask. The error is `Memory`.
+/// Combines `raw`, the bits of a raw comparison of two windows, with the masks of the windows, and
+/// returns the bits of missing equality: two nulls are equal, and a null and a present row are not.
+/// Bit `i` is that of row `a + i` of the left array and row `b + i` of the right one. If neither
+/// array can have nulls, returns `raw` and computes no mask. The error is `Memory`.
 #[inline(always)]
 pub(crate) fn join_windows(
     alloc: Global,

@@ -36,7 +36,7 @@ pub(crate) struct ItemRun {
 #[derive(Drop)]
 pub(crate) enum NextRows {
     /// The next two lists don't match: they have different numbers of items, or they have items and
-    /// one of them is null.
+    /// at least one of them is null.
     Apart,
     /// The next lists match.
     Run(ItemRun),
@@ -74,9 +74,9 @@ macro_rules! on_lists {
     };
 }
 
-// Returns the number of leading pairs of lists that match, at most `n`: list `a + i` of the left
-// array and list `b + i` of the right one. Not inlined, so that the code of `matching_run` stays
-// small: it calls this function only if all known pairs match.
+// Returns the number of leading pairs of lists that match, at most `n`. Pair `i` is list `a + i` of
+// the left array and list `b + i` of the right one. Not inlined, so that the code of `matching_run`
+// stays small: it calls this function only if all known pairs match.
 #[inline(never)]
 fn run_length(left: &ListArray, a: usize, right: &ListArray, b: usize, n: usize) -> usize
     requires left_good { IsGood (List left.now) }
@@ -120,7 +120,8 @@ impl Matches {
         Matches { word: 0, len: 0 }
     }
 
-    // Computes the matches of the first of `n` pairs of lists, at most 64.
+    // Computes the matches of the first `n` pairs of lists, or of the first 64 if `n` is larger.
+    // Pair `i` is list `a + i` of the left array and list `b + i` of the right one.
     fn of_lists(left: &ListArray, a: usize, right: &ListArray, b: usize, n: usize) -> Matches
         requires left_good { IsGood (List left.now) }
         requires right_good { IsGood (List right.now) }
@@ -136,8 +137,7 @@ impl Matches {
         }
     }
 
-    // Computes the matches of the first of `n` pairs of lists, unless some matches are known
-    // already.
+    // Sets `self` to the result of `of_lists`, unless some matches are known already.
     #[inline(always)]
     fn learn(&mut self, left: &ListArray, a: usize, right: &ListArray, b: usize, n: usize)
         requires left_good { IsGood (List left.now) }
@@ -167,8 +167,10 @@ impl Matches {
     }
 }
 
-// Returns the number of leading pairs of lists that match, at most `n`. Computes the next matches
-// if none is known. Afterwards `matches` has the known matches of the lists after these.
+// Returns the number of leading pairs of lists that match, at most `n`. Pair `i` is list `a + i` of
+// the left array and list `b + i` of the right one. `matches` has the known matches of these pairs;
+// if none is known, they are computed. Afterwards it has the known matches of the pairs after the
+// counted ones.
 #[inline(always)]
 fn matching_run(
     left: &ListArray,

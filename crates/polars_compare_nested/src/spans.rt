@@ -1,5 +1,6 @@
-//! Loops over lists between offsets of 32 or 64 bits: whether lists match, and whether the bits of
-//! all their items are set. The offsets are passed as slices, in addition to their array.
+//! Loops over lists between offsets of 32 or 64 bits, which test whether lists match, and whether
+//! the bits of all their items are set. The offsets are passed as slices, in addition to their
+//! array.
 
 ghost use Rattle.std.specs.Option.{option_copied};
 ghost use Rattle.std.specs.Prelude.{◌≡◌, ℕ, ◌+◌, ◌-◌, ◌^◌, ◌<◌, ◌≤◌, ◌↔◌, ◌&&◌, IfSome, IsTrue};
@@ -50,7 +51,8 @@ fn list_at<O: Offset>(offsets: &[O], i: usize) -> (usize, usize)
     (from, to - from)
 }
 
-// A truth value for each pair of lists of two windows: whether both have the same number of items.
+// A truth value for each `i` below `rows`: whether list `a + i` of the left array and list `b + i`
+// of the right one have the same number of items.
 #[derive(Drop)]
 struct SameCounts<'m, L: Offset, R: Offset> {
     left: &'m [L],
@@ -83,7 +85,7 @@ impl<L: Offset, R: Offset> TruthValues for SameCounts<'_, L, R> {
     }
 }
 
-// A truth value for each list of a window: whether it has `width` items.
+// A truth value for each of the `rows` lists from list `a` on: whether it has `width` items.
 #[derive(Drop)]
 struct ListsOfWidth<'m, O: Offset> {
     offsets: &'m [O],
@@ -144,7 +146,7 @@ fn both_present(left: &ListArray, a: usize, right: &ListArray, b: usize, n: usiz
 /// Returns a word whose bit `i` is 1 if list `a + i` of the left array and list `b + i` of the
 /// right one match, for each `i` below `n`, which is at most 64. Two lists match if they have the
 /// same number of items, and are both present or both empty.
-// Compares 64 counts at a time, and reads validities as words.
+// Compares all counts in one loop, and reads validities as words.
 #[inline(always)]
 pub(crate) fn matching_word<L: Offset, R: Offset>(
     left: &ListArray,
@@ -200,8 +202,8 @@ pub(crate) fn leading_bits(word: u64, n: usize) -> usize
     (word.trailing_ones() as usize).min(n)
 }
 
-/// Returns the number of leading pairs of lists that match, at most `n`: list `a + i` of the left
-/// array and list `b + i` of the right one.
+/// Returns the number of leading pairs of lists that match, at most `n`. Pair `i` is list `a + i`
+/// of the left array and list `b + i` of the right one.
 pub(crate) fn matching_rows<L: Offset, R: Offset>(
     left: &ListArray,
     left_offsets: &[L],

@@ -4,7 +4,8 @@
 //! A comparison of nested arrays compares windows of the arrays inside them, and copies no array.
 //! Structs need one comparison for each column. Lists of fixed size need one comparison of all
 //! their items. Lists between offsets need one comparison for each run of adjacent lists that match
-//! (`runs.rt`). Dictionaries need a comparison of two entries for each row.
+//! (`runs.rt`). Dictionaries need a comparison of two entries for each pair of rows whose keys are
+//! not null.
 //!
 //! Leaves are compared by the `LeafKernel` that the caller passes as `steps`. The counter `Steps`
 //! is a `LeafKernel`: it compares leaves by equality (`eq_leaves`), and counts them.
@@ -61,8 +62,8 @@ pub fn equal_windows<K: LeafKernel>(
     ensures { Compares (SameBits K.agree) left.now a right.now b n (K.count steps.old)
         (K.count steps.new) result }
 {
-    // Each arm returns which rows are the same without reading the validities of the two arrays.
-    // If a row is masked on either side, its bit is arbitrary.
+    // Each arm returns a bit for each pair of rows: 1 if they are the same. If a row is masked on
+    // either side, the bit is arbitrary.
     let raw = match left {
         AnyArray::Null(_) => Bitmap::new_with_value(alloc, true, n),
         AnyArray::List(left) => eq_lists(alloc, left, a, as_list(right), b, n, steps),
@@ -78,9 +79,10 @@ pub fn equal_windows<K: LeafKernel>(
     join_windows(alloc, raw?, left, a, right, b)
 }
 
-/// Returns a bit for each pair of lists of two windows: 1 if they have the same number of items,
-/// and the same items in order. If a list is masked on either side, the bit is arbitrary. Leaves
-/// are compared and counted by `steps`. The error is `Memory`.
+/// Returns a bit for each `i` below `n`: 1 if list `a + i` of the left array and list `b + i` of
+/// the right one have the same number of items, and the same items in order. If a list is masked on
+/// either side, the bit is arbitrary. Leaves are compared and counted by `steps`. The error is
+/// `Memory`; the count of `steps` may have increased by then.
 #[cycle(equal)]
 pub fn eq_lists<K: LeafKernel>(
     alloc: Global,
@@ -118,9 +120,10 @@ pub fn eq_lists<K: LeafKernel>(
     Ok(bits.freeze())
 }
 
-// Appends the bits of the next pairs of lists, at least one and at most `n`, and returns their
-// number. `leaves` says that all items are leaves without nulls. `matches` has the known matches of
-// the next lists. The error is `Memory`.
+// Appends to `bits` the bits of `eq_lists` for the next pairs of lists, from lists `a` and `b` on,
+// and returns the number of pairs: at least one and at most `n`. If `leaves` is true, all items are
+// leaves without nulls. `matches` has the known matches of the next pairs, and afterwards those of
+// the pairs that follow. The error is `Memory`; the count of `steps` may have increased by then.
 #[cycle(equal)]
 fn push_next<K: LeafKernel>(
     alloc: Global,
@@ -173,9 +176,10 @@ fn push_next<K: LeafKernel>(
     }
 }
 
-/// Returns a bit for each pair of fixed-size lists of two windows: 1 if they have the same items in
-/// order. If a list is masked on either side, the bit is arbitrary. Leaves are compared and counted
-/// by `steps`. The error is `Memory`.
+/// Returns a bit for each `i` below `n`: 1 if fixed-size list `a + i` of the left array and
+/// fixed-size list `b + i` of the right one have the same items in order. If a list is masked on
+/// either side, the bit is arbitrary. Leaves are compared and counted by `steps`. The error is
+/// `Memory`; the count of `steps` may have increased by then.
 #[cycle(equal)]
 pub fn eq_fixed_size_lists<K: LeafKernel>(
     alloc: Global,
@@ -205,10 +209,10 @@ pub fn eq_fixed_size_lists<K: LeafKernel>(
     BitMask::from_bitmap(&items).all_in_blocks(alloc, left.width(), n)
 }
 
-/// Returns a bit for each pair of structs of two windows: 1 if they have the same row in each
-/// field. If a struct is masked on either side, the bit is arbitrary. Leaves are compared and
-/// counted by `steps`. The bits of the first column are reused for the result. The error is
-/// `Memory`.
+/// Returns a bit for each `i` below `n`: 1 if struct `a + i` of the left array and struct `b + i`
+/// of the right one have the same row in each column. If a struct is masked on either side, the bit
+/// is arbitrary. Leaves are compared and counted by `steps`. The bitmap of the first column is
+/// reused for the result. The error is `Memory`; the count of `steps` may have increased by then.
 #[cycle(equal)]
 pub fn eq_structs<K: LeafKernel>(
     alloc: Global,
@@ -237,10 +241,10 @@ pub fn eq_structs<K: LeafKernel>(
     Ok(bits.freeze())
 }
 
-// Compares the rows of two columns, and clears the bits of rows that differ. Bit `i` is that of row
-// `a + i` of the left column and row `b + i` of the right one. Leaves without nulls are compared by
-// `leaf_and_eq`, all other rows into a new bitmap. The error is `Memory`; the count of `steps` may
-// have increased by then.
+// Clears each bit `i` of `bits` for which row `a + i` of the left column and row `b + i` of the
+// right one differ. `n` is the number of bits. Leaves without nulls are compared by `leaf_and_eq`,
+// all other rows into a new bitmap. The error is `Memory`; the count of `steps` may have increased
+// by then.
 #[cycle(equal)]
 fn join_column<K: LeafKernel>(
     alloc: Global,
@@ -268,9 +272,10 @@ fn join_column<K: LeafKernel>(
     Ok(())
 }
 
-/// Returns a bit for each pair of keys of two windows: 1 if they refer to entries that are the
-/// same. If a key is masked on either side, the bit is arbitrary. Leaves are compared and counted
-/// by `steps`. If the entries are leaves, keys are read in blocks of 64. The error is `Memory`.
+/// Returns a bit for each `i` below `n`: 1 if key `a + i` of the left array and key `b + i` of the
+/// right one refer to entries that are the same. If a row is masked on either side, the bit is
+/// arbitrary. Leaves are compared and counted by `steps`. If the entries are leaves, keys are read
+/// in blocks of 64. The error is `Memory`; the count of `steps` may have increased by then.
 #[cycle(equal)]
 pub fn eq_dictionaries<K: LeafKernel>(
     alloc: Global,
@@ -299,7 +304,8 @@ pub fn eq_dictionaries<K: LeafKernel>(
 }
 
 // Returns whether key `a` of the left array and key `b` of the right one refer to entries that are
-// the same. If a key is masked on either side, the result is arbitrary. The error is `Memory`.
+// the same. If a row is masked on either side, the result is arbitrary. The error is `Memory`; the
+// count of `steps` may have increased by then.
 #[cycle(equal)]
 #[inline(always)]
 fn equal_entries<K: LeafKernel>(
@@ -328,9 +334,9 @@ fn equal_entries<K: LeafKernel>(
     }
 }
 
-// Returns whether row `a` of the left array and row `b` of the right one are the same, without
-// reading the validities of the two arrays. If a row is masked on either side, the result is
-// arbitrary. Leaves are compared by `leaf_row_eq`, which may need no bitmap. The error is `Memory`.
+// Returns whether row `a` of the left array and row `b` of the right one are the same. If a row is
+// masked on either side, the result is arbitrary. Leaves are compared by `leaf_row_eq`, which may
+// need no bitmap. The error is `Memory`; the count of `steps` may have increased by then.
 #[cycle(equal)]
 #[inline(always)]
 fn raw_row<K: LeafKernel>(
@@ -359,8 +365,9 @@ fn raw_row<K: LeafKernel>(
 }
 
 // Returns whether row `a` of the left array and row `b` of the right one are the same, for nested
-// arrays and for null arrays. If a row is masked on either side, the result is arbitrary. No bitmap
-// is allocated for the rows of dictionary arrays. The error is `Memory`.
+// arrays and for null arrays. If a row is masked on either side, the result is arbitrary. A row of
+// a dictionary array needs no bitmap of its own. The error is `Memory`; the count of `steps` may
+// have increased by then.
 #[cycle(equal)]
 fn nested_row<K: LeafKernel>(
     alloc: Global,

@@ -21,7 +21,7 @@ use std::alloc::Global;
 /// `BytesOrdKernel::tot_lt_kernel_broadcast(&array, Global, b"x")`, since `TotalOrdKernel` has
 /// methods with the same names.
 pub trait BytesOrdKernel: ByteRows + Sized {
-    /// Returns for each row whether it is less than the byte string.
+    /// Returns a bit for each row: 1 if the row is less than the byte string `other`.
     fn tot_lt_kernel_broadcast(&self, alloc: Global, other: &[u8]) -> Result<Bitmap, ComputeError>
         ensures { MatchResult result
             (RawOrder row_less (Self.mask self.now) None (Self.slots self.now)
@@ -31,7 +31,7 @@ pub trait BytesOrdKernel: ByteRows + Sized {
         compare_bytes(alloc, &Less, self, other)
     }
 
-    /// Returns for each row whether it is less than or equal to the byte string.
+    /// Returns a bit for each row: 1 if the row is less than or equal to the byte string `other`.
     fn tot_le_kernel_broadcast(&self, alloc: Global, other: &[u8]) -> Result<Bitmap, ComputeError>
         ensures { MatchResult result
             (RawOrder row_at_most (Self.mask self.now) None (Self.slots self.now)
@@ -41,7 +41,7 @@ pub trait BytesOrdKernel: ByteRows + Sized {
         compare_bytes(alloc, &LessOrEqual, self, other)
     }
 
-    /// Returns for each row whether it is greater than the byte string.
+    /// Returns a bit for each row: 1 if the row is greater than the byte string `other`.
     fn tot_gt_kernel_broadcast(&self, alloc: Global, other: &[u8]) -> Result<Bitmap, ComputeError>
         ensures { MatchResult result
             (RawOrder row_greater (Self.mask self.now) None (Self.slots self.now)
@@ -51,7 +51,8 @@ pub trait BytesOrdKernel: ByteRows + Sized {
         compare_bytes(alloc, &Greater, self, other)
     }
 
-    /// Returns for each row whether it is greater than or equal to the byte string.
+    /// Returns a bit for each row: 1 if the row is greater than or equal to the byte string
+    /// `other`.
     fn tot_ge_kernel_broadcast(&self, alloc: Global, other: &[u8]) -> Result<Bitmap, ComputeError>
         ensures { MatchResult result
             (RawOrder row_at_least (Self.mask self.now) None (Self.slots self.now)
@@ -69,7 +70,7 @@ pub trait BytesOrdKernel: ByteRows + Sized {
 /// Call these methods by path, as in `TextOrdKernel::tot_lt_kernel_broadcast(&array, Global, "x")`,
 /// since `TotalOrdKernel` has methods with the same names.
 pub trait TextOrdKernel: ByteRows + Sized {
-    /// Returns for each row whether it is less than the text.
+    /// Returns a bit for each row: 1 if the row is less than the text `other`.
     fn tot_lt_kernel_broadcast(&self, alloc: Global, other: &str) -> Result<Bitmap, ComputeError>
         ensures { MatchResult result
             (RawOrder row_less (Self.mask self.now) None (Self.slots self.now)
@@ -79,7 +80,7 @@ pub trait TextOrdKernel: ByteRows + Sized {
         compare_bytes(alloc, &Less, self, other.as_bytes())
     }
 
-    /// Returns for each row whether it is less than or equal to the text.
+    /// Returns a bit for each row: 1 if the row is less than or equal to the text `other`.
     fn tot_le_kernel_broadcast(&self, alloc: Global, other: &str) -> Result<Bitmap, ComputeError>
         ensures { MatchResult result
             (RawOrder row_at_most (Self.mask self.now) None (Self.slots self.now)
@@ -89,7 +90,7 @@ pub trait TextOrdKernel: ByteRows + Sized {
         compare_bytes(alloc, &LessOrEqual, self, other.as_bytes())
     }
 
-    /// Returns for each row whether it is greater than the text.
+    /// Returns a bit for each row: 1 if the row is greater than the text `other`.
     fn tot_gt_kernel_broadcast(&self, alloc: Global, other: &str) -> Result<Bitmap, ComputeError>
         ensures { MatchResult result
             (RawOrder row_greater (Self.mask self.now) None (Self.slots self.now)
@@ -99,7 +100,7 @@ pub trait TextOrdKernel: ByteRows + Sized {
         compare_bytes(alloc, &Greater, self, other.as_bytes())
     }
 
-    /// Returns for each row whether it is greater than or equal to the text.
+    /// Returns a bit for each row: 1 if the row is greater than or equal to the text `other`.
     fn tot_ge_kernel_broadcast(&self, alloc: Global, other: &str) -> Result<Bitmap, ComputeError>
         ensures { MatchResult result
             (RawOrder row_at_least (Self.mask self.now) None (Self.slots self.now)

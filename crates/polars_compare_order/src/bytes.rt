@@ -1,4 +1,4 @@
-//! Order of arrays of byte strings and of texts between offsets (`BinaryArray`, `Utf8Array`).
+//! Order of `BinaryArray`s and of `Utf8Array`s.
 
 ghost use Rattle.std.specs.Prelude.{string_bytes};
 ghost use Rattle.polars_arrays_flat.specs.Row.{Bytes};

@@ -11,9 +11,9 @@ use polars_arrays_bits::error::ComputeError;
 use polars_arrays_flat::array::Array;
 use std::alloc::Global;
 
-/// Order of the rows of two arrays of one kind, or of an array and a scalar (a broadcast). Numbers
-/// are ordered as whole numbers, byte strings byte by byte, and texts by their bytes in UTF-8.
-/// `false` is less than `true`.
+/// Order of the rows of two arrays of one kind and equal length, or of an array and a scalar (a
+/// broadcast). Numbers are ordered by value, byte strings lexicographically, and texts
+/// lexicographically by their bytes in UTF-8. `false` is less than `true`.
 ///
 /// Each call returns a bitmap with a bit for each row. The validity is not read: if a row is null
 /// on either side, its bit is arbitrary. The error is `Memory`.
@@ -64,7 +64,7 @@ pub trait TotalOrdKernel: Sized + Array {
         other.tot_le_kernel(alloc, self)
     }
 
-    /// Returns for each row whether it is less than the scalar.
+    /// Returns a bit for each row: 1 if the row is less than the scalar `other`.
     fn tot_lt_kernel_broadcast(
         &self,
         alloc: Global,
@@ -75,7 +75,7 @@ pub trait TotalOrdKernel: Sized + Array {
             (replicate (length (Self.slots self.now)) (scalar_row other.now)))
             IsMemory };
 
-    /// Returns for each row whether it is less than or equal to the scalar.
+    /// Returns a bit for each row: 1 if the row is less than or equal to the scalar `other`.
     fn tot_le_kernel_broadcast(
         &self,
         alloc: Global,
@@ -86,7 +86,7 @@ pub trait TotalOrdKernel: Sized + Array {
             (replicate (length (Self.slots self.now)) (scalar_row other.now)))
             IsMemory };
 
-    /// Returns for each row whether it is greater than the scalar.
+    /// Returns a bit for each row: 1 if the row is greater than the scalar `other`.
     fn tot_gt_kernel_broadcast(
         &self,
         alloc: Global,
@@ -97,7 +97,7 @@ pub trait TotalOrdKernel: Sized + Array {
             (replicate (length (Self.slots self.now)) (scalar_row other.now)))
             IsMemory };
 
-    /// Returns for each row whether it is greater than or equal to the scalar.
+    /// Returns a bit for each row: 1 if the row is greater than or equal to the scalar `other`.
     fn tot_ge_kernel_broadcast(
         &self,
         alloc: Global,

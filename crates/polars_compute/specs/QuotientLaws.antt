@@ -1,4 +1,4 @@
--- Quotients and moduli, by products and order alone, for a divisor b other than 0: so q lies
+-- Quotients and moduli for a divisor b other than 0, by products and order alone. A number q lies
 -- between 0 and a / b exactly if q times b lies between 0 and a.
 use Rattle.std.specs.Prelude.{◌≡◌, ◌≢◌, ◌<◌, ◌≤◌, ◌≤ℤ◌, ◌↔◌, ◌+ℤ◌, ◌-ℤ◌, ◌*ℤ◌, ℕ, ℤ, pos, negsuc}
 use Rattle.std.specs.Prelude.{unsigned_abs}
@@ -33,7 +33,7 @@ abbrev pub HasSignOf : ℤ → ℤ → Type 0
 HasSignOf (pos n) m = pos 0 ≤ℤ m
 HasSignOf (negsuc n) m = m ≤ℤ pos 0
 
--- m is a less a multiple of b, is 0 or has the sign of b, and has a smaller magnitude
+-- m is a minus a multiple of b, is 0 or has the sign of b, and has a smaller magnitude than b
 pub record IsRest (m a b : ℤ) : Type 0 where
   pub left : (k : ℤ) × (k *ℤ b +ℤ m ≡ a)
   pub sign : HasSignOf b m

@@ -19,7 +19,7 @@ ReadsByRows = (s : State) → ByRows (λ rows read. read ≡ rows_read s rows) (
 abbrev pub MergesEitherWay : Type 0
 MergesEitherWay = (s t : State) → range_of s ≡ range_of t → merged s t ≡ merged t s
 
--- merging states of one range is associative
+-- merging states is associative
 abbrev pub MergesInGroups : Type 0
 MergesInGroups = (s t u : State) → merged (merged s t) u ≡ merged s (merged t u)
 
@@ -44,13 +44,15 @@ abbrev pub StaysWhenMerged : Type 0
 StaysWhenMerged = (put : ℤ → Row) (s t : State) → IsTrue (all_seen s) → range_of s ≡ range_of t
     → finalised put (merged s t) ≡ finalised put s
 
--- once a state has seen all, keys to null entries as null, an array does not change the result
+-- once a state has seen all, with keys to null entries counted as null, appending an array that it
+-- accepts does not change the result
 abbrev pub ReadStaysWhenAppended : Type 0
 ReadStaysWhenAppended = (null : ℤ → Bool) (put : ℤ → Row) (s : State) (rows : List Row)
     → IsTrue (all_seen (read_by null s)) → IsTrue (are_within (range_of s) rows)
     → finalised put (read_by null (appended rows s)) ≡ finalised put (read_by null s)
 
--- once a state has seen all, keys to null entries as null, a merge does not change the result
+-- once a state has seen all, with keys to null entries counted as null, merging a state of its
+-- range does not change the result
 abbrev pub ReadStaysWhenMerged : Type 0
 ReadStaysWhenMerged = (null : ℤ → Bool) (put : ℤ → Row) (s t : State)
     → IsTrue (all_seen (read_by null s)) → range_of s ≡ range_of t

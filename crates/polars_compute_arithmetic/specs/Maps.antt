@@ -33,7 +33,7 @@ joined_validity None right = right
 joined_validity (Some left) None = Some left
 joined_validity (Some left) (Some right) = Some (zip2 ◌&&◌ left right)
 
--- each value is a result for two values, and a row is present if both were; bits match values
+-- each value is a result for two, a row is present if both are; a validity has a bit for each value
 pub record MapsPairs {A B C : Type 0} (Answers : A → B → C → Type 0) (left : Numbers A)
     (right : Numbers B) (after : Numbers C) : Type 0 where
   pub values : AllPairs Answers left.values right.values after.values

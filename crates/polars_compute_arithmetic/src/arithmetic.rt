@@ -31,14 +31,14 @@ pub trait HasPrimitiveArithmeticKernel: NativeType + PrimitiveArithmeticKernelIm
 
 impl<T: NativeType + PrimitiveArithmeticKernelImpl> HasPrimitiveArithmeticKernel for T {}
 
-/// Arithmetic on the rows of arrays of numbers, wrapped to their type. A row of the result is null
-/// if an operand is null or the divisor is 0. A number in place of an array acts as an array that
-/// holds the number in each row.
+/// Arithmetic on the rows of arrays of numbers, wrapped to their type. Two arrays must have equal
+/// lengths. A row of the result is null if an operand is null or the divisor is 0. A number in
+/// place of an array acts as an array that holds the number in each row.
 ///
-/// Each call takes ownership of its arrays. If an array owns its values, they are overwritten with
-/// the result; otherwise new values are allocated. The error is `Memory`. The result owns its
-/// values, with one exception: a division of an array by the number 0 returns the array with its
-/// values unchanged, owned or shared, and with all rows null.
+/// Each call takes ownership of its arrays. The result overwrites the values of an array that owns
+/// them, those of the left one if both do. If none does, new values are allocated. The error is
+/// `Memory`. The result owns its values, with one exception: a division or modulus of an array by
+/// the number 0 returns the array with its values unchanged, owned or shared, and all rows null.
 pub trait ArithmeticKernel: Sized + Array {
     /// The type of a number in place of an array.
     type Scalar;
@@ -119,8 +119,8 @@ pub trait ArithmeticKernel: Sized + Array {
             (rows_under (Self.mask rhs) (Self.slots rhs))) IsMemory }
         ensures owned { IfOk result (λ a. IsTrue (owns a)) };
 
-    /// Returns the modulus of the rows of `self` and `rhs` at each index: the remainder of the
-    /// division that rounds down. It is 0 or has the sign of the divisor.
+    /// Divides the row of `self` by the row of `rhs` at each index, rounding down, and returns the
+    /// remainder (modulus). It is 0 or has the sign of the divisor.
     fn wrapping_mod(self, alloc: Global, rhs: Self) -> Result<Self, ComputeError>
         requires { length (Self.slots self) ≡ length (Self.slots rhs) }
         ensures answers { MatchResult result
@@ -129,7 +129,7 @@ pub trait ArithmeticKernel: Sized + Array {
             (rows_under (Self.mask rhs) (Self.slots rhs))) IsMemory }
         ensures owned { IfOk result (λ a. IsTrue (owns a)) };
 
-    /// Adds a number to each row.
+    /// Adds the number `rhs` to each row.
     fn wrapping_add_scalar(self, alloc: Global, rhs: Self::Scalar) -> Result<Self, ComputeError>
         ensures answers { MatchResult result
             (λ a. rows_under (Self.mask a) (Self.slots a)
@@ -138,7 +138,7 @@ pub trait ArithmeticKernel: Sized + Array {
         ensures owned { IfOk result (λ a. IsTrue (owns a)) }
         ensures in_place { IsTrue (owns self) → IsOk result };
 
-    /// Subtracts a number from each row.
+    /// Subtracts the number `rhs` from each row.
     fn wrapping_sub_scalar(self, alloc: Global, rhs: Self::Scalar) -> Result<Self, ComputeError>
         ensures answers { MatchResult result
             (λ a. rows_under (Self.mask a) (Self.slots a)
@@ -148,7 +148,7 @@ pub trait ArithmeticKernel: Sized + Array {
         ensures owned { IfOk result (λ a. IsTrue (owns a)) }
         ensures in_place { IsTrue (owns self) → IsOk result };
 
-    /// Subtracts each row from a number.
+    /// Subtracts each row of `rhs` from the number `lhs`.
     fn wrapping_sub_scalar_lhs(
         alloc: Global,
         lhs: Self::Scalar,
@@ -161,7 +161,7 @@ pub trait ArithmeticKernel: Sized + Array {
         ensures owned { IfOk result (λ a. IsTrue (owns a)) }
         ensures in_place { IsTrue (owns rhs) → IsOk result };
 
-    /// Multiplies each row by a number.
+    /// Multiplies each row by the number `rhs`.
     fn wrapping_mul_scalar(self, alloc: Global, rhs: Self::Scalar) -> Result<Self, ComputeError>
         ensures answers { MatchResult result
             (λ a. rows_under (Self.mask a) (Self.slots a)
@@ -171,7 +171,7 @@ pub trait ArithmeticKernel: Sized + Array {
         ensures owned { IfOk result (λ a. IsTrue (owns a)) }
         ensures in_place { IsTrue (owns self) → IsOk result };
 
-    /// Divides each row by a number, rounding down.
+    /// Divides each row by the number `rhs`, rounding down.
     fn wrapping_floor_div_scalar(
         self,
         alloc: Global,
@@ -184,7 +184,7 @@ pub trait ArithmeticKernel: Sized + Array {
             IsMemory }
         ensures owned { IfOk result (λ a. owns a ≡ (owns self || is_nonzero (number rhs))) };
 
-    /// Divides a number by each row, rounding down.
+    /// Divides the number `lhs` by each row of `rhs`, rounding down.
     fn wrapping_floor_div_scalar_lhs(
         alloc: Global,
         lhs: Self::Scalar,
@@ -196,7 +196,7 @@ pub trait ArithmeticKernel: Sized + Array {
             (rows_under (Self.mask rhs) (Self.slots rhs))) IsMemory }
         ensures owned { IfOk result (λ a. IsTrue (owns a)) };
 
-    /// Divides each row by a number, rounding toward 0.
+    /// Divides each row by the number `rhs`, rounding toward 0.
     fn wrapping_trunc_div_scalar(
         self,
         alloc: Global,
@@ -209,7 +209,7 @@ pub trait ArithmeticKernel: Sized + Array {
             (rows_under (Self.mask self) (Self.slots self))) IsMemory }
         ensures owned { IfOk result (λ a. owns a ≡ (owns self || is_nonzero (number rhs))) };
 
-    /// Divides a number by each row, rounding toward 0.
+    /// Divides the number `lhs` by each row of `rhs`, rounding toward 0.
     fn wrapping_trunc_div_scalar_lhs(
         alloc: Global,
         lhs: Self::Scalar,
@@ -221,8 +221,7 @@ pub trait ArithmeticKernel: Sized + Array {
             (rows_under (Self.mask rhs) (Self.slots rhs))) IsMemory }
         ensures owned { IfOk result (λ a. IsTrue (owns a)) };
 
-    /// Returns the modulus of each row and a number as divisor: the remainder of the division that
-    /// rounds down.
+    /// Divides each row by the number `rhs`, rounding down, and returns the remainder (modulus).
     fn wrapping_mod_scalar(self, alloc: Global, rhs: Self::Scalar) -> Result<Self, ComputeError>
         ensures answers { MatchResult result
             (λ a. rows_under (Self.mask a) (Self.slots a)
@@ -230,8 +229,8 @@ pub trait ArithmeticKernel: Sized + Array {
             (λ n. modulo n (number rhs)) (rows_under (Self.mask self) (Self.slots self))) IsMemory }
         ensures owned { IfOk result (λ a. owns a ≡ (owns self || is_nonzero (number rhs))) };
 
-    /// Returns the modulus of a number and each row as divisor: the remainder of the division that
-    /// rounds down.
+    /// Divides the number `lhs` by each row of `rhs`, rounding down, and returns the remainder
+    /// (modulus).
     fn wrapping_mod_scalar_lhs(
         alloc: Global,
         lhs: Self::Scalar,
@@ -256,7 +255,8 @@ pub trait ArithmeticKernel: Sized + Array {
         self.wrapping_floor_div(alloc, rhs)
     }
 
-    /// Divides each row by a number, rounding down. Another name of `wrapping_floor_div_scalar`.
+    /// Divides each row by the number `rhs`, rounding down. Another name of
+    /// `wrapping_floor_div_scalar`.
     final fn legacy_div_scalar(self, alloc: Global, rhs: Self::Scalar) -> Result<Self, ComputeError>
         ensures answers { MatchResult result
             (λ a. rows_under (Self.mask a) (Self.slots a)
@@ -268,7 +268,7 @@ pub trait ArithmeticKernel: Sized + Array {
         self.wrapping_floor_div_scalar(alloc, rhs)
     }
 
-    /// Divides a number by each row, rounding down. Another name of
+    /// Divides the number `lhs` by each row of `rhs`, rounding down. Another name of
     /// `wrapping_floor_div_scalar_lhs`.
     final fn legacy_div_scalar_lhs(
         alloc: Global,

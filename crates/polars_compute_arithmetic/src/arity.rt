@@ -112,8 +112,7 @@ fn map_pairs<L: Copy, R: Copy, O: Copy, F: Fn(L, R) -> O>(
     Ok(mapped)
 }
 
-// Replaces each left value by the result of `op` for it and the right value at the same index. The
-// slices have equal lengths.
+// Replaces `left[i]` by `op(left[i], right[i])` at each index `i`. The slices have equal lengths.
 fn map_over_left<T: Copy, R: Copy, F: Fn(T, R) -> T>(left: &mut [T], right: &[R], op: F)
     requires same_length { length left.old ≡ length right.now }
     requires callable { TakesPairs (F.pre op) left.old right.now }
@@ -124,8 +123,7 @@ fn map_over_left<T: Copy, R: Copy, F: Fn(T, R) -> T>(left: &mut [T], right: &[R]
     }
 }
 
-// Replaces each right value by the result of `op` for the left value at the same index and it. The
-// slices have equal lengths.
+// Replaces `right[i]` by `op(left[i], right[i])` at each index `i`. The slices have equal lengths.
 fn map_over_right<L: Copy, T: Copy, F: Fn(L, T) -> T>(left: &[L], right: &mut [T], op: F)
     requires same_length { length left.now ≡ length right.old }
     requires callable { TakesPairs (F.pre op) left.now right.old }
@@ -159,8 +157,8 @@ pub(crate) fn join_validities(
 }
 
 /// Returns a new array of the results of `op` for the two stored values at each index, also those
-/// of null rows. A row of the result is null if it is null in either array. The result owns its
-/// values. The error is `Memory`.
+/// of null rows. The arrays have equal lengths. A row of the result is null if it is null in either
+/// array. The result owns its values. The error is `Memory`.
 pub fn prim_binary_values<L: NativeType, R: NativeType, O: NativeType, F: Fn(L, R) -> O>(
     alloc: Global,
     lhs: PrimitiveArray<L>,
@@ -197,10 +195,10 @@ fn new_pairs<L: NativeType, R: NativeType, O: NativeType, F: Fn(L, R) -> O>(
     Ok(PrimitiveArray::from_vec(values).with_validity(validity))
 }
 
-/// Applies `op` to the two stored values at each index, also those of null rows. The results
-/// overwrite the values of `lhs` if it owns them, or else those of `rhs` if it owns them. If both
-/// arrays share their values, these stay unchanged and new ones are allocated. A row of the result
-/// is null if it is null in either array. The result owns its values. The error is `Memory`.
+/// Applies `op` to the two stored values at each index, also those of null rows. The arrays have
+/// equal lengths. The results overwrite the values of `lhs` if it owns them, or else those of `rhs`
+/// if it owns them. If both share their values, new ones are allocated. A row of the result is null
+/// if it is null in either array. The result owns its values. The error is `Memory`.
 pub fn prim_binary_in_place<T: NativeType, F: Fn(T, T) -> T>(
     alloc: Global,
     lhs: PrimitiveArray<T>,

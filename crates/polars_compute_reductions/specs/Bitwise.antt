@@ -10,7 +10,7 @@ use Rattle.polars_compute_reductions.specs.Folds.{none_present}
 use Rattle.polars_arrays_numbers.specs.Wrapping.{wrapped}
 use Rattle.polars_arrays_words.specs.Bits.{first_of, is_bit}
 
--- the natural number that is congruent to n modulo 2 to the width
+-- the natural number below 2^width that is congruent to n modulo 2^width
 abbrev pub pattern : ℕ → ℤ → ℕ
 pattern width n = unsigned_abs (int_rem_euclid n (pos (2 ^ width)))
 
@@ -18,7 +18,7 @@ pattern width n = unsigned_abs (int_rem_euclid n (pos (2 ^ width)))
 abbrev pub number_bits : ℕ → ℤ → List Bool
 number_bits width n = first_of (is_bit (pattern width n)) width
 
--- the bits of a row; a truth value has one
+-- the bits of a row: `width` bits of a number, one of a truth value, none of any other row
 abbrev pub row_bits : ℕ → Row → List Bool
 row_bits width (Int n) = number_bits width n
 row_bits width (Truth b) = b ∷ []
@@ -49,7 +49,7 @@ abbrev pub reduced : (List Bool → Bool) → ℕ → List Row → Option (List 
 reduced test width rows =
     cond (none_present rows) None (Some (first_of (λ i. test (place_bits width i rows)) width))
 
--- whether an odd number of bits are 1
+-- true if an odd number of bits are 1
 abbrev pub is_odd : List Bool → Bool
 is_odd bits = eqb (count_by (λ b. b) bits % 2) 1
 
@@ -62,7 +62,7 @@ joined_bits operator least width a b =
 abbrev pub AreCounts : (List Bool → ℕ) → ℕ → List Row → Numbers ℕ → Type 0
 AreCounts count width rows counts = number_rows (λ n. pos n) counts ≡ map (counted count width) rows
 
--- the number of ones (or zeros) of a truth value as a bit
+-- the number of ones of a truth value if the first argument is true, else of zeros
 abbrev pub truth_count : Bool → Bool → ℕ
 truth_count true b = cond b 1 0
 truth_count false b = cond b 0 1

@@ -3,7 +3,7 @@ use Rattle.std.specs.Prelude.{◌≡◌, ℤ, Bool, cond, eqb, List, [], ◌∷�
 use Rattle.polars_arrays_flat.specs.ArrayRows.{null_total}
 use Rattle.polars_arrays_flat.specs.Row.{Row, Int}
 
--- the operator is associative and commutative, and may join the first number any number of times
+-- the operator is associative and commutative, and joins two neutral numbers to the neutral number
 pub record Folds (joined : ℤ → ℤ → ℤ) (neutral : ℤ) : Type 0 where
   pub any_groups : (a b c : ℤ) → joined (joined a b) c ≡ joined a (joined b c)
   pub any_order : (a b : ℤ) → joined a b ≡ joined b a
@@ -24,7 +24,7 @@ abbrev pub number_or : ℤ → Row → ℤ
 number_or neutral (Int n) = n
 number_or neutral row = neutral
 
--- whether no row is present
+-- true if no row is present
 abbrev pub none_present : List Row → Bool
 none_present rows = eqb (null_total rows) (length rows)
 

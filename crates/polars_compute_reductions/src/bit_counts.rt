@@ -123,7 +123,7 @@ impl<T: BitNumber> BitCount<T> for TrailingZeros {
     }
 }
 
-// Returns a new vector with the count for each number.
+// Returns a new vector with the result of `count` for each of `numbers`.
 fn count_each<T: NativeType, C: BitCount<T>>(
     alloc: Global,
     count: &C,

@@ -38,30 +38,34 @@ pub trait BitwiseKernel {
     // The row that a scalar stands for.
     ghost scalar_row: { Self.Scalar → Row };
 
-    /// Counts the ones of each row.
+    /// Returns the number of ones of each row. Null rows stay null. The error is `Memory`.
     fn count_ones(&self, alloc: Global) -> Result<PrimitiveArray<u32>, ComputeError>
         ensures { MatchResult result (AreCounts (count_by (λ b. b)) width (rows self.now))
             IsMemory };
 
-    /// Counts the zeros of each row.
+    /// Returns the number of zeros of each row. Null rows stay null. The error is `Memory`.
     fn count_zeros(&self, alloc: Global) -> Result<PrimitiveArray<u32>, ComputeError>
         ensures { MatchResult result (AreCounts (count_by not) width (rows self.now)) IsMemory };
 
-    /// Counts the ones of each row from the highest bit down, up to the first 0.
+    /// Returns the number of ones of each row from the highest bit down, up to the first 0. Null
+    /// rows stay null. The error is `Memory`.
     fn leading_ones(&self, alloc: Global) -> Result<PrimitiveArray<u32>, ComputeError>
         ensures { MatchResult result (AreCounts (leading_run (λ b. b)) width (rows self.now))
             IsMemory };
 
-    /// Counts the zeros of each row from the highest bit down, up to the first 1.
+    /// Returns the number of zeros of each row from the highest bit down, up to the first 1. Null
+    /// rows stay null. The error is `Memory`.
     fn leading_zeros(&self, alloc: Global) -> Result<PrimitiveArray<u32>, ComputeError>
         ensures { MatchResult result (AreCounts (leading_run not) width (rows self.now)) IsMemory };
 
-    /// Counts the ones of each row from the lowest bit up, up to the first 0.
+    /// Returns the number of ones of each row from the lowest bit up, up to the first 0. Null rows
+    /// stay null. The error is `Memory`.
     fn trailing_ones(&self, alloc: Global) -> Result<PrimitiveArray<u32>, ComputeError>
         ensures { MatchResult result (AreCounts (trailing_run (λ b. b)) width (rows self.now))
             IsMemory };
 
-    /// Counts the zeros of each row from the lowest bit up, up to the first 1.
+    /// Returns the number of zeros of each row from the lowest bit up, up to the first 1. Null rows
+    /// stay null. The error is `Memory`.
     fn trailing_zeros(&self, alloc: Global) -> Result<PrimitiveArray<u32>, ComputeError>
         ensures { MatchResult result (AreCounts (trailing_run not) width (rows self.now))
             IsMemory };

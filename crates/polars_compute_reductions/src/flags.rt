@@ -1,6 +1,6 @@
-//! Expands a word of 64 bits to 64 flags, one for each row. A flag is a number that is 0 if the
-//! row's bit is 0. Loops that read a flag and a number for each row are fastest if both are equally
-//! wide.
+//! Expands a word of 64 bits to 64 flags, one for each row. A flag is a number that is 0 exactly if
+//! the row's bit is 0. Loops that read a flag and a number for each row are fastest if both are
+//! equally wide.
 
 ghost use Rattle.std.specs.Prelude.{◌≡◌, ℕ, Bool, eqb, not, map};
 ghost use Rattle.polars_arrays_words.specs.Bits.{first_of, is_bit};
@@ -89,8 +89,8 @@ impl Flag for u32 {
     }
 }
 
-/// Returns a byte for each of the 64 bits of a word. It is 0 if the bit is 0, and not 0 if the bit
-/// is 1.
+/// Returns 64 bytes, one for each bit of `word`, the lowest bit first. A byte is 0 if its bit is 0,
+/// and not 0 if its bit is 1.
 #[inline(always)]
 pub(crate) fn flags_of_8(word: u64) -> [u8; ROWS]
     ensures { map (λ flag. not (eqb flag 0)) result ≡ first_of (is_bit word) 64 }
@@ -99,8 +99,8 @@ pub(crate) fn flags_of_8(word: u64) -> [u8; ROWS]
     (bytes & u8x64::from_array(PLACES)).to_array()
 }
 
-/// Returns a number of 16 bits for each of the 64 bits of a word. It is 0 if the bit is 0, and not
-/// 0 if the bit is 1.
+/// Returns 64 numbers of 16 bits, one for each bit of `word`, the lowest bit first. A number is 0
+/// if its bit is 0, and not 0 if its bit is 1.
 #[inline(always)]
 pub(crate) fn flags_of_16(word: u64) -> [u16; ROWS]
     ensures { map (λ flag. not (eqb flag 0)) result ≡ first_of (is_bit word) 64 }
@@ -113,8 +113,8 @@ pub(crate) fn flags_of_16(word: u64) -> [u16; ROWS]
     (quarters & u16x64::from_array(QUARTER_PLACES)).to_array()
 }
 
-/// Returns a number of 32 bits for each of the 64 bits of a word. It is 0 if the bit is 0, and not
-/// 0 if the bit is 1.
+/// Returns 64 numbers of 32 bits, one for each bit of `word`, the lowest bit first. A number is 0
+/// if its bit is 0, and not 0 if its bit is 1.
 #[inline(always)]
 pub(crate) fn flags_of_32(word: u64) -> [u32; ROWS]
     ensures { map (λ flag. not (eqb flag 0)) result ≡ first_of (is_bit word) 64 }

@@ -29,7 +29,7 @@ const RUN_WORDS: usize = 32;
 // Number of rows in a run.
 const RUN: usize = BLOCK * RUN_WORDS;
 
-/// Returns the fold of all numbers.
+/// Returns the fold of `numbers`. If there are none, returns the number that folds start with.
 #[inline]
 pub fn fold_all<T: NativeType, O: Operator<T>>(operator: &O, numbers: &[T]) -> T
     ensures { T.value result
@@ -124,8 +124,8 @@ fn fold_word<T: NativeType, O: Operator<T>>(operator: &O, numbers: &[T], word: u
     }
 }
 
-// Returns the AND of all words of a run's mask, which is `u64::MAX` if all rows are present. The
-// loop has no branch in its body and is vectorized.
+// Returns the AND of all words of a run's mask. The result is `u64::MAX` exactly if all rows of the
+// run are present. The loop has no branch in its body and is vectorized.
 #[inline(always)]
 fn common_bits(mask: &BitMask<'_>) -> u64
     requires { length mask.now ≡ 2048 }
@@ -154,7 +154,8 @@ fn fold_by_row<T: NativeType, O: Operator<T>>(operator: &O, numbers: &[T], mask:
     total
 }
 
-// Returns the fold of the numbers whose bit of the mask is 1. Reads the mask by words of 64 bits.
+// Returns the fold of the numbers whose bit of the mask is 1. Reads the mask by words of 64 bits,
+// and the bits after the last whole word one by one.
 fn fold_words<T: NativeType, O: Operator<T>>(operator: &O, numbers: &[T], mask: &BitMask<'_>) -> T
     requires { length mask.now ≡ length numbers.now }
     ensures { T.value result
@@ -362,7 +363,7 @@ pub fn reduce_rows<T: NativeType, O: Operator<T>>(
     ensures { option_map T.value result
         ≡ folded_if_any O.joined (O.neutral operator.now) (number_rows T.value array.now) }
 {
-    // Has no effect at run time. Tells the proof that the validity has a bit for each row.
+    // Has no effect at run time. The proof learns from it that the validity has a bit for each row.
     let _validity = array.validity();
     let total = fold_rows(operator, array);
     // Nulls are counted only if the total is the number that folds start with, as it is without

@@ -1,5 +1,5 @@
-//! Counts, reductions and sums of columns. Sums, bitwise reductions and extremes share one loop,
-//! the fold of the present rows.
+//! Counts, reductions and sums of columns. Sums, bitwise reductions and extremes of numbers share
+//! one loop, the fold of the present rows.
 #![tactic(auto)]
 
 pub mod bit_counts;

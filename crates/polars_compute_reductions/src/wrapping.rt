@@ -10,15 +10,15 @@ use num_traits::{Bounded, FixedWidth};
 
 /// A type of integers of 8 to 64 bits with wrapping arithmetic.
 pub trait WrappingNumber: FixedWidth + Bounded {
-    // The type has all numbers from `low` to `high`, which are 2 to the power of its width in bits.
+    // The type has all numbers from `low` to `high`: 2 to the power of its width in bits.
     ghost range_law: { HasAllOf Self.low Self.high (bit_len Self.width) };
 
-    // Arithmetic of the type wraps as defined.
+    // Arithmetic of the type wraps as `wrapped` does.
     ghost wrapped_law: { (n : ℤ) → Self.wrap n ≡ wrapped Self.low (bit_len Self.width) n };
 }
 
-/// States that a whole number, wrapped to the type, is the only number of the type that is
-/// congruent to the whole number modulo 2^n. The type has n bits.
+/// States that a whole number wrapped to a type of n bits is the only number of the type that is
+/// congruent to the whole number modulo 2^n. Does nothing at run time.
 pub fn law_wrapped<T: WrappingNumber>()
     ensures congruent { (n : ℤ)
         → IsWrapped T.low T.high (bit_len T.width) n (wrapped T.low (bit_len T.width) n) }

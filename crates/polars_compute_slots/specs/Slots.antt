@@ -14,7 +14,7 @@ slot_state least n slots = record {
   has_null = slice_index_or slots n false;
 }
 
--- n values from `least` on are within a type's bounds
+-- n values from `least` on are within a type's bounds, and n + 1 is less than 2^64
 pub record AreNumbers (low high least : ℤ) (n : ℕ) : Type 0 where
   pub from : low ≤ℤ least
   pub to : (least +ℤ pos n) ≤ℤ (high +ℤ pos 1)

@@ -8,7 +8,7 @@ use Rattle.std.specs.Simd.Lanes.{zip2}
 use Rattle.polars_arrays_flat.specs.ArrayRows.{is_null}
 use Rattle.polars_arrays_flat.specs.Row.{Row, Null, Int, Truth}
 
--- each value of a range, ascending (false as 0, true as 1), with whether it was seen; and null
+-- each value of a range, ascending (false as 0, true as 1), with a flag for seen; a flag for null
 pub record State : Type 0 where
   pub values : List (ℤ × Bool)
   pub has_null : Bool
@@ -21,11 +21,11 @@ range_of s = map (λ v. v.0) s.values
 abbrev pub set_of : State → List ℤ
 set_of s = map (λ v. v.0) (filter (λ v. v.1) s.values)
 
--- n consecutive whole numbers
+-- the n whole numbers from `least` on
 abbrev pub numbers_from : ℤ → ℕ → List ℤ
 numbers_from least n = map (λ i. least +ℤ pos i) (range_with_len 0 n)
 
--- the whole numbers from one to another that is not less
+-- the whole numbers from `least` to `greatest`, which is not less
 abbrev pub numbers_between : ℤ → ℤ → List ℤ
 numbers_between least greatest = numbers_from least (unsigned_abs (greatest -ℤ least +ℤ pos 1))
 
@@ -43,25 +43,25 @@ new_state range = record { values = map (λ v. (v, false)) range; has_null = fal
 
 -- ---- rows
 
--- whether a row is this value
+-- true if a row is this value
 abbrev pub is_value : ℤ → Row → Bool
 is_value v (Int n) = int_eq v n
 is_value v (Truth b) = int_eq v (cond b (pos 1) (pos 0))
 is_value v row = false
 
--- whether one of the rows is this value
+-- true if one of the rows is this value
 abbrev pub holds : List Row → ℤ → Bool
 holds rows v = list_any (is_value v) rows
 
--- whether one of the rows is null
+-- true if one of the rows is null
 abbrev pub any_null : List Row → Bool
 any_null rows = list_any is_null rows
 
--- whether a row is null or a value of the range
+-- true if a row is null or a value of the range
 abbrev pub is_within : List ℤ → Row → Bool
 is_within range row = is_null row || list_any (λ v. is_value v row) range
 
--- whether all rows are null or values of the range
+-- true if all rows are null or values of the range
 abbrev pub are_within : List ℤ → List Row → Bool
 are_within range rows = list_all (is_within range) rows
 
@@ -91,8 +91,8 @@ merged s t = record {
 
 -- ---- readings of a state
 
--- a state in the reading in which some values mean null, as keys to null entries do: they are no
--- values, and a seen one sets the flag
+-- a state if some values mean null, as keys to null entries of a dictionary do: they are no values,
+-- and the flag is also set if one of them was seen
 abbrev pub read_by : (ℤ → Bool) → State → State
 read_by null s = record {
   values = filter (λ v. not (null v.0)) s.values;
@@ -101,11 +101,11 @@ read_by null s = record {
 
 -- ---- results of a state
 
--- whether all values of the range were seen
+-- true if all values of the range were seen
 abbrev pub is_full : State → Bool
 is_full s = list_all (λ v. v.1) s.values
 
--- whether all values of the range were seen, and a null
+-- true if all values of the range were seen, and a null
 abbrev pub all_seen : State → Bool
 all_seen s = is_full s && s.has_null
 

@@ -1,4 +1,4 @@
-//! Checks that the rows of an array lie in a range.
+//! Checks whether each row of an array is null or lies in a range.
 
 ghost use Rattle.std.specs.Option.{option_copied};
 ghost use Rattle.std.specs.Prelude.{◌≡◌, ◌<◌, length};
@@ -15,8 +15,7 @@ use polars_arrays_flat::array::Array;
 use polars_arrays_flat::primitive::PrimitiveArray;
 use polars_arrays_flat::validity::is_present;
 
-// Returns whether a row is null or its number lies in the range. `present` says that the row is
-// present.
+// Returns whether a row is null (`present` is false) or its `number` lies in the range `span`.
 fn accepts_row<T: UniqueNumber>(span: &Span<T>, present: bool, number: T) -> bool
     ensures { result
         ≡ is_within (numbers_from (T.value span.now.least) span.now.count)

@@ -92,8 +92,8 @@ pub fn last_masked(alloc: Global, n: usize) -> Result<Bitmap, ComputeError>
     Ok(bits.freeze())
 }
 
-// Returns an array of the numbers and of a last row that is null. The null row stores 0. The error
-// is `Memory`.
+// Returns an array of `numbers` and of a last row that is null. The null row stores 0. `numbers`
+// must have spare capacity. The error is `Memory`.
 pub(crate) fn with_null<T: UniqueNumber>(
     alloc: Global,
     numbers: Vec<T>,

@@ -1,4 +1,4 @@
-//! Sets the slots of the values that occur in an array.
+//! Sets the slots of the rows of an array.
 
 ghost use Rattle.std.specs.Prelude.{◌≡◌, ◌+◌, ◌≤◌, length};
 ghost use Rattle.polars_arrays_flat.specs.ArrayRows.{number_rows};
@@ -37,8 +37,7 @@ fn mark_all<T: UniqueNumber, S: Slots>(slots: &mut S, span: &Span<T>, numbers: &
     }
 }
 
-// Sets the slots of 64 rows: that of the number if the row's bit of `word` is 1, and that of null
-// otherwise.
+// Sets the slots of 64 rows. Row `i` is `numbers[i]` if bit `i` of `word` is 1, and null otherwise.
 #[inline(always)]
 fn mark_word<T: UniqueNumber, S: Slots>(slots: &mut S, span: &Span<T>, numbers: &[T], word: u64)
     requires size { length (S.set_slots slots.old) ≡ span.now.count + 1 }
@@ -55,8 +54,8 @@ fn mark_word<T: UniqueNumber, S: Slots>(slots: &mut S, span: &Span<T>, numbers: 
     }
 }
 
-// Sets the slots of the rows: that of the number if the row's bit of the mask is 1, and that of
-// null otherwise. Reads the mask bit by bit.
+// Sets the slot of each row. Row `i` is `numbers[i]` if bit `i` of `mask` is 1, and null otherwise.
+// Reads the mask bit by bit.
 #[inline(always)]
 fn mark_few<T: UniqueNumber, S: Slots>(
     slots: &mut S,
@@ -77,8 +76,8 @@ fn mark_few<T: UniqueNumber, S: Slots>(
     }
 }
 
-// Sets the slots of the rows: that of the number if the row's bit of the mask is 1, and that of
-// null otherwise. Reads the mask by words of 64 bits.
+// Sets the slot of each row. Row `i` is `numbers[i]` if bit `i` of `mask` is 1, and null otherwise.
+// Reads the mask by words of 64 bits, and the rest bit by bit.
 #[inline(always)]
 fn mark_masked<T: UniqueNumber, S: Slots>(
     slots: &mut S,
@@ -104,8 +103,8 @@ fn mark_masked<T: UniqueNumber, S: Slots>(
     mark_few(slots, span, &numbers[at..at + rest], &mask.window(at, rest));
 }
 
-// Sets the slots of the numbers, in blocks of 512. Stops after the block in which the slots of all
-// values are set. Adds the number of numbers read to `steps`.
+// Sets the slots of `numbers`, in blocks of 512. Stops before a block if the slots of all values of
+// the range are set. Adds the number of rows read to `steps`.
 #[inline(always)]
 fn mark_until_full<T: UniqueNumber, S: Slots>(
     slots: &mut S,
@@ -132,8 +131,8 @@ fn mark_until_full<T: UniqueNumber, S: Slots>(
     }
 }
 
-// Sets the slots of the rows: that of the number if the row's bit of the validity is 1, and that of
-// null otherwise. Adds the number of rows read to `steps`. If a row is null, all rows are read.
+// Sets the slot of each row. Row `i` is `numbers[i]` if bit `i` of `validity` is 1, and null
+// otherwise. Adds the number of rows read to `steps`. If a row is null, all rows are read.
 // Otherwise blocks of 512 rows are read until the slots of all values are set.
 #[inline(always)]
 fn mark_under<T: UniqueNumber, S: Slots>(

@@ -1,5 +1,5 @@
-//! Counts and lists the values of slots if some values of the range mean null. For example, the
-//! values are keys of a dictionary, and the key of a null entry means null.
+//! Counts and lists the values whose slots are set, if some values of the range mean null. For
+//! example, the values are keys of a dictionary, and the key of a null entry means null.
 
 ghost use Rattle.std.specs.Prelude.{◌≡◌, ◌+◌, ◌<◌, ◌≤◌, ◌^◌, ◌&&◌, ◌||◌, ℤ, Bool, false, cond, not};
 ghost use Rattle.std.specs.Prelude.{length, map, vec_len, vec_capacity, IfOk, MatchResult};
@@ -64,7 +64,7 @@ impl ReadCounts {
 }
 
 // Returns the counts of a state in which no value means null. The range has `count` values, and the
-// slot after theirs is that of null.
+// last slot is that of null.
 fn whole_counts<S: Slots>(slots: &S, count: usize) -> ReadCounts
     requires { length (S.set_slots slots.now) ≡ count + 1 }
     ensures counted { (least : ℤ)
@@ -78,8 +78,8 @@ fn whole_counts<S: Slots>(slots: &S, count: usize) -> ReadCounts
     }
 }
 
-/// Counts the values of the range that don't mean null, and those of them that were seen. `nulls`
-/// says which values mean null.
+/// Returns how many values of the range don't mean null, how many of these were seen, and whether a
+/// null was seen, or a value that means null. `nulls` says which values mean null.
 pub fn read_counts<T: UniqueNumber, S: Slots, N: NullValues>(
     slots: &S,
     span: &Span<T>,
@@ -141,8 +141,8 @@ fn list_values<T: UniqueNumber, S: Slots, N: NullValues>(
     Ok(numbers)
 }
 
-/// Returns an array of the values that were seen and don't mean null, ascending. A null is the last
-/// row if a null was seen, or a value that means null. The error is `Memory`.
+/// Returns an array of the values that were seen and don't mean null by `nulls`, ascending. A null
+/// is the last row if a null was seen, or a value that means null. The error is `Memory`.
 pub fn list_read<T: UniqueNumber, S: Slots, N: NullValues>(
     alloc: Global,
     slots: &S,

@@ -1,4 +1,4 @@
-//! The trait `Slots`: flags that are set one by one. Up to 128 slots are stored in one word
+//! The trait `Slots`: flags (slots) that are set one by one. Up to 128 slots are stored in a `u128`
 //! (`WordSlots`), and more in a `MutableBitmap`.
 
 ghost use Rattle.std.specs.Prelude.{◌≡◌, ◌+◌, ◌<◌, ◌≤◌, ◌^◌, ◌||◌, List, Bool, true, false, length};
@@ -8,10 +8,10 @@ ghost use Rattle.std.specs.Simd.Lanes.{zip2};
 use polars_arrays_bits::mutable_bitmap::MutableBitmap;
 use std::marker::Model;
 
-/// The greatest number of slots that one word can store.
+/// The greatest number of slots that a `WordSlots` can store.
 pub const WORD_SLOTS: usize = 128;
 
-/// A list of slots, each of which is set or not.
+/// A list of slots, each set or not. The last slot is that of null.
 pub trait Slots {
     // A flag for each slot, true if the slot is set.
     ghost set_slots: { Self → List Bool };
@@ -38,7 +38,7 @@ pub trait Slots {
         ensures { set_slots self.new ≡ zip2 ◌||◌ (set_slots self.old) (set_slots other.now) };
 }
 
-/// A list of at most 128 slots, stored in one word.
+/// A list of at most 128 slots, stored in a `u128`.
 #[derive(Drop)]
 pub struct WordSlots {
     // bits from `len` on are 0

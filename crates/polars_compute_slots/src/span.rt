@@ -1,5 +1,5 @@
-//! The range of the numbers whose distinct values a state collects. Each number of the range has a
-//! slot, and null has the last slot.
+//! A range of numbers (`Span`). Each number has a slot, which is set if the number was seen, and
+//! null has the last slot.
 
 ghost use Rattle.std.specs.Prelude.{◌≡◌, ◌<◌, ◌^◌, ◌+ℤ◌, ◌-ℤ◌, ◌≤ℤ◌, ◌<ℤ◌, ◌↔◌, pos, unsigned_abs};
 ghost use Rattle.std.specs.Prelude.{IsTrue};
@@ -21,7 +21,7 @@ pub struct Span<T: UniqueNumber> {
     pub count: usize,
 }
 
-// Returns `number - least`. `number` is at least `least`.
+// Returns `number - least`, which must lie between 0 and `usize::MAX`.
 #[inline(always)]
 fn distance<T: UniqueNumber>(least: T, number: T) -> usize
     requires order { T.value least ≤ℤ T.value number }
@@ -64,8 +64,7 @@ impl<T: UniqueNumber> Span<T> {
         ensures numbers { AreNumbers T.low T.high (T.value result.least) 0 }
     {
         let least = least_value::<T>();
-        // Has no effect at run time. Tells the proof that the number lies within the bounds of its
-        // type.
+        // Has no effect at run time. Shows the prover that the number is within its type's bounds.
         let _whole = least.whole();
         Span { least, count: 0 }
     }
@@ -76,12 +75,12 @@ impl<T: UniqueNumber> Span<T> {
         requires { HasSlot (T.value self.now.least) self.now.count (Int (T.value number)) }
         ensures { result ≡ slot_of (T.value self.now.least) self.now.count (Int (T.value number)) }
     {
-        // Has no effect at run time. Tells the proof that the count is a `usize`.
+        // Has no effect at run time. Shows the prover that the count is a `usize`.
         let _count = self.count;
         distance(self.least, number)
     }
 
-    /// Returns the number that has the slot: `least + slot`.
+    /// Returns the number whose slot is `slot`: `least + slot`. `slot` must be less than `count`.
     #[inline(always)]
     pub fn number(&self, slot: usize) -> T
         requires numbers { AreNumbers T.low T.high (T.value self.now.least) self.now.count }

@@ -17,12 +17,12 @@ abbrev pub key_rows : DictKeys → List Row
 key_rows (UInt32 keys) = number_rows (λ x. pos x) keys
 key_rows keys = []
 
--- whether the keys are of type u32
+-- true if the keys are of type u32
 abbrev pub are_u32 : DictKeys → Bool
 are_u32 (UInt32 keys) = true
 are_u32 keys = false
 
--- whether a key names a null entry; a key without an entry does not
+-- true if a key names a null entry; false for a key without an entry
 abbrev pub names_null : AnyArray → ℤ → Bool
 names_null entries (pos key) = ltb key (len_of entries) && is_null (row entries key)
 names_null entries (negsuc n) = false

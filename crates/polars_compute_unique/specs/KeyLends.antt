@@ -1,4 +1,4 @@
--- The value of a state of dictionary keys after the state of its keys was lent for writing.
+-- The value of a state of dictionary keys after the state of its keys was borrowed mutably.
 use Rattle.std.specs.Borrow.{Fml, MutBor, Lends, u32}
 use Rattle.std.specs.contracts.prelude.U32Add.TheImpl.{ghosts as add}
 use Rattle.std.specs.contracts.prelude.U32Ord.TheImpl.{ghosts as ord}
@@ -15,7 +15,7 @@ use Rattle.polars_compute_unique.specs.contracts.primitive.PrimitiveRangedUnique
   the_row as keys_row,
 }
 
--- the state of the keys is the one last written through r
+-- the state of the keys is the one last written through the reference that `key_state` returns
 abbrev pub lends_keys : MutBor KeyState → MutBor State → Fml
 lends_keys s r =
     Lends the_row (keys_row u32 ord eq partial_ord bounded number fixed_width zero add) s r

@@ -4,12 +4,12 @@ use Rattle.polars_compute_slots.specs.Slots.{AreNumbers}
 use Rattle.polars_compute_unique.specs.declared.primitive.Seen.{Seen}
 use Rattle.polars_compute_unique.specs.declared.primitive.Seen.TheVariants.{Few, Many}
 
--- for each slot whether it is set
+-- a flag for each slot, true if the slot is set
 abbrev pub seen_slots : Seen → List Bool
 seen_slots (Few slots) = slots
 seen_slots (Many slots) = slots
 
--- whether the slots are stored in one word
+-- true if the slots are stored in one word
 abbrev pub in_word : Seen → Bool
 in_word (Few slots) = true
 in_word (Many slots) = false

@@ -11,7 +11,7 @@ abbrev pub AreAdjacent : List Row → Type 0
 AreAdjacent rows = (i j k : ℕ) → i ≤ j → j ≤ k → k < length rows → row rows i ≡ row rows k
     → row rows j ≡ row rows i
 
--- each distinct row once, null among them, in the order of its first place
+-- each distinct row once, in the order of first places; null counts as a row
 pub record AreDistinct (rows distinct : List Row) : Type 0 where
   pub all : (i : ℕ) → i < length rows → Contains distinct (row rows i)
   pub places : List ℕ

@@ -61,7 +61,7 @@ fn held_by(array: &BooleanArray) -> Held
     ensures trues { result.trues ≡ holds (truth_rows array.now) (pos 1) }
     ensures nulls { result.nulls ≡ any_null (truth_rows array.now) }
 {
-    // Has no effect at run time. Tells the proof that the validity has a bit for each row.
+    // Has no effect at run time. The proof learns from it that the validity has a bit for each row.
     let _validity = array.validity();
     let nulls = array.null_count();
     let trues = true_rows(array);
@@ -107,8 +107,9 @@ fn push_seen(values: &mut BitmapBuilder, seen: bool, value: bool)
     }
 }
 
-// Returns the values of the array of `finalize_unique`: the truth values that were seen, and
-// `false` as the value under a last null, if a null was seen. The error is `Memory`.
+// Returns the values of the array that `finalize_unique` returns: the truth values that were seen,
+// `false` before `true`, and then `false` in the slot of the null, if a null was seen. The error is
+// `Memory`.
 fn seen_values(alloc: Global, state: &BooleanUniqueKernelState) -> Result<Bitmap, ComputeError>
     ensures { MatchResult result (λ bits. bits ≡ seen_bits state.now) IsMemory }
 {
@@ -165,8 +166,8 @@ impl RangedUniqueKernel for BooleanUniqueKernelState {
     }
 
     fn accepts(&self, _array: &BooleanArray) -> bool {
-        // Has no effect at run time, here and in `same_range`. Tells the proof the range of the
-        // state.
+        // Has no effect at run time, here and in `same_range`. The proof learns from it the range
+        // of the state.
         let _ = &self.seen_null;
         true
     }

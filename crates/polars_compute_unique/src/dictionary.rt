@@ -53,8 +53,8 @@ impl Model for DictionaryRangedUniqueState {
     ghost invariant = { λ s. IsGood s.entries };
 }
 
-/// Returns whether keys of type `u32` can refer to all entries of a dictionary: whether there are
-/// at most 2^32 entries.
+/// Returns whether keys of type `u32` can refer to all entries of a dictionary: whether `values`,
+/// its entries, has at most 2^32 rows.
 pub fn keys_fit(values: &AnyArray) -> bool
     ensures { IsTrue result ↔ (len_of values.now ≤ 2 ^ 32) }
 {
@@ -79,8 +79,8 @@ impl DictionaryRangedUniqueState {
     ghost use Rattle.polars_compute_unique.specs.KeyLends.{lends_keys};
 
     /// Creates a state of the keys of a dictionary that has seen none of them. `values` has the
-    /// entries of the dictionary. The error is `Memory`, and is possible only for more than 127
-    /// entries.
+    /// entries of the dictionary, at most 2^32. The error is `Memory`, and is possible only for
+    /// more than 127 entries.
     pub fn new(alloc: Global, values: AnyArray) -> Result<DictionaryRangedUniqueState, ComputeError>
         requires good { IsGood values }
         requires fit { len_of values ≤ 2 ^ 32 }
@@ -111,7 +111,8 @@ impl DictionaryRangedUniqueState {
         &mut self.keys
     }
 
-    // Counts the keys of the range and those that were seen. Keys to null entries count as null.
+    // Counts the keys of the range that don't refer to null entries, and those of them that were
+    // seen. Also returns whether a null or a key to a null entry was seen.
     fn read_counts(&self) -> ReadCounts
         ensures counted { IsCounted (read_by (names_null self.now.entries) self.now.keys) result }
         ensures few { result.seen + 1 < 2 ^ 64 }
@@ -183,7 +184,7 @@ struct EntryNulls<'a> {
 }
 
 impl<'a> EntryNulls<'a> {
-    // Creates the value for the entries of a dictionary.
+    // Creates an `EntryNulls` for the entries of a dictionary.
     fn of(entries: &'a AnyArray) -> EntryNulls<'a>
         ensures { result.entries.now ≡ entries.now }
     {

@@ -65,16 +65,16 @@ pub trait RangedUniqueKernel {
     fn same_range(&self, other: &Self) -> bool
         ensures { IsTrue result ↔ (range_of (state self.now) ≡ range_of (state other.now)) };
 
-    /// Adds the values of the present rows of an array to the values seen, and records whether the
-    /// array has a null. The state must accept the array.
+    /// Adds the values of the present rows of an array to the values seen, and records a null if
+    /// the array has one. The state must accept the array.
     fn append(&mut self, array: &Self::Array)
         requires taken { IsTrue (is_taken array.now) }
         requires within { IsTrue (are_within (range_of (state self.old)) (fed array.now)) }
         ensures state { state self.new ≡ appended (fed array.now) (state self.old) }
         ensures dictionary { dictionary self.new ≡ dictionary self.old };
 
-    /// Adds the values that another state has seen to the values seen, and records whether that
-    /// state has seen a null. Both states must have the same range. Each state keeps its own
+    /// Adds the values that another state has seen to the values seen, and records a null if that
+    /// state has seen one. Both states must have the same range. Each state keeps its own
     /// dictionary.
     fn append_state(&mut self, other: &Self)
         requires { range_of (state self.old) ≡ range_of (state other.now) }

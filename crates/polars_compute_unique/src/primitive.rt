@@ -50,8 +50,8 @@ fn none_set(alloc: Global, len: usize) -> Result<Seen, ComputeError>
     Ok(Seen::Many(slots))
 }
 
-// Sets the slots that are set in `other`. Both must have the same number of slots and be of the
-// same variant.
+// Sets the slots of `seen` that are set in `other`. Both must have the same number of slots and be
+// of the same variant.
 fn join_seen(seen: &mut Seen, other: &Seen)
     requires size { length (seen_slots other.now) ≡ length (seen_slots seen.old) }
     requires word { in_word other.now ≡ in_word seen.old }
@@ -96,7 +96,8 @@ pub fn range_fits<T: UniqueNumber>(min_value: T, max_value: T) -> bool
 
 impl<T: UniqueNumber> PrimitiveRangedUniqueState<T> {
     /// Creates a state with the range from `min_value` to `max_value` that has seen no row. The
-    /// error is `Memory`, and is possible only for a range of more than 127 numbers.
+    /// range must fit (`range_fits`). The error is `Memory`, and is possible only for a range of
+    /// more than 127 numbers.
     pub fn new(
         alloc: Global,
         min_value: T,
@@ -141,8 +142,9 @@ impl<T: UniqueNumber> PrimitiveRangedUniqueState<T> {
         }
     }
 
-    // Counts the values of the range that don't mean null, and those of them that were seen.
-    // `nulls` says which values mean null.
+    // Counts the values of the range that don't mean null, and those of them that were seen. Also
+    // returns whether a null or a value that means null was seen. `nulls` says which values mean
+    // null.
     pub(crate) fn read_counts<N: NullValues>(&self, nulls: &N) -> ReadCounts
         requires { N.good nulls.now }
         ensures counted { IsCounted (read_by (N.is_null nulls.now) self.now) result }

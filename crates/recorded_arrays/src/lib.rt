@@ -65,8 +65,8 @@ fn ask(alloc: Global, call: Call, store: &Store, words: &mut Words) -> Result<St
 }
 
 // Reads the name of an array of `store` from the next word, and returns the result of `asked` on
-// this array as text. Reads other arguments from the words after the name. Returns the error `Case`
-// if `store` has no array of that name.
+// this array as text. Reads other arguments from the words after the name. The errors are those of
+// reading the name, such as `Case` if `store` has no array of that name, and those of `ask_one`.
 fn ask_next(alloc: Global, asked: OfOne, store: &Store, words: &mut Words) -> Result<String, Fault>
     requires { HasGoodArrays store.now }
 {

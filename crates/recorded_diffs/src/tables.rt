@@ -29,8 +29,8 @@ pub(crate) fn answer_tables(
     answer_choice(alloc, options, choice, left, right)
 }
 
-/// Compares the columns that `choice` selects of the tables `left` and `right`, and returns as text
-/// the outcome or the error, and the bytes of the report.
+/// Compares the CSV tables `left` and `right` in the columns that `choice` selects, with `options`
+/// such as `common`. Returns as text the outcome or the error, and the bytes of the report.
 fn answer_choice(
     alloc: Global,
     options: &[&str],

@@ -31,7 +31,7 @@ pub const FAR_LEVELS: usize = 100_000;
 /// Reads a number of levels, a word with the kinds of the levels separated by commas, and an array,
 /// and wraps the array in the levels. The first kind is that of the outermost level. If there are
 /// fewer kinds than levels, they are repeated. The error is `Depth` if there are more than `most`
-/// levels, `Word` if a word is missing or wrong, or is a kind of no level, and otherwise as in
+/// levels, `Word` if a word is missing or wrong or names an unknown kind, and otherwise as in
 /// `read_any`.
 pub fn read_wrapped(alloc: Global, words: &mut Words, most: usize) -> Result<AnyArray, Fault>
     ensures { IfOk result (λ a. IsGood a) }

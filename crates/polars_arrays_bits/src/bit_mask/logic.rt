@@ -67,7 +67,7 @@ impl BitMask<'_> {
         Bitmap::from_source(alloc, &source, self.len)
     }
 
-    /// Returns the AND of the two bits at each index. The error is `Memory`.
+    /// Returns the bitwise AND of `self` and `other`. The error is `Memory`.
     pub fn and(&self, alloc: Global, other: &BitMask<'_>) -> Result<Bitmap, ComputeError>
         requires { length other.now ≡ length self.now }
         ensures { MatchResult result (λ bits. bits ≡ zip2 ◌&&◌ self.now other.now) IsMemory }
@@ -75,7 +75,7 @@ impl BitMask<'_> {
         self.zip(alloc, other, And)
     }
 
-    /// Returns the OR of the two bits at each index. The error is `Memory`.
+    /// Returns the bitwise OR of `self` and `other`. The error is `Memory`.
     pub fn or(&self, alloc: Global, other: &BitMask<'_>) -> Result<Bitmap, ComputeError>
         requires { length other.now ≡ length self.now }
         ensures { MatchResult result (λ bits. bits ≡ zip2 ◌||◌ self.now other.now) IsMemory }
@@ -83,7 +83,7 @@ impl BitMask<'_> {
         self.zip(alloc, other, Or)
     }
 
-    /// Returns the exclusive OR of the two bits at each index. The error is `Memory`.
+    /// Returns the bitwise XOR of `self` and `other`. The error is `Memory`.
     pub fn xor(&self, alloc: Global, other: &BitMask<'_>) -> Result<Bitmap, ComputeError>
         requires { length other.now ≡ length self.now }
         ensures { MatchResult result (λ bits. bits ≡ zip2 xor self.now other.now) IsMemory }
@@ -91,7 +91,8 @@ impl BitMask<'_> {
         self.zip(alloc, other, Xor)
     }
 
-    /// Returns for each index whether the two bits are equal. The error is `Memory`.
+    /// Returns for each index whether the bits of `self` and `other` are equal. The error is
+    /// `Memory`.
     pub fn xnor(&self, alloc: Global, other: &BitMask<'_>) -> Result<Bitmap, ComputeError>
         requires { length other.now ≡ length self.now }
         ensures { MatchResult result (λ bits. bits ≡ zip2 xnor self.now other.now) IsMemory }

@@ -125,9 +125,9 @@ impl BitMask<'_> {
         Bitmap::from_source(alloc, &source, self.len)
     }
 
-    /// Returns for each row whether the two sides are equal. Null is equal only to null. `q` says
-    /// for each row whether the stored values are equal, `l` and `r` whether the row of the left
-    /// and of the right side is present. Computes `(q & l & r) | !(l | r)`. The error is `Memory`.
+    /// Returns for each row whether the left and the right side are equal. Null is equal only to
+    /// null. `q` says for each row whether the stored values are equal. `l` and `r` are the masks
+    /// of the left and the right side. Computes `(q & l & r) | !(l | r)`. The error is `Memory`.
     pub fn merge_eq(
         alloc: Global,
         q: &BitMask<'_>,
@@ -141,9 +141,9 @@ impl BitMask<'_> {
         q.merge(alloc, l, r, MergeEq)
     }
 
-    /// Returns for each row whether the two sides differ. Null is equal only to null. `q` says for
-    /// each row whether the stored values differ, `l` and `r` whether the row of the left and of
-    /// the right side is present. Computes `(q & l & r) | (l ^ r)`. The error is `Memory`.
+    /// Returns for each row whether the left and the right side differ. Null is equal only to null.
+    /// `q` says for each row whether the stored values differ. `l` and `r` are the masks of the
+    /// left and the right side. Computes `(q & l & r) | (l ^ r)`. The error is `Memory`.
     pub fn merge_ne(
         alloc: Global,
         q: &BitMask<'_>,

@@ -12,7 +12,7 @@ use crate::error::ComputeError;
 use std::alloc::Global;
 
 impl Bitmap {
-    /// Returns the AND of the two bits at each index. The error is `Memory`.
+    /// Returns the bitwise AND of `self` and `other`. The error is `Memory`.
     pub fn and(&self, alloc: Global, other: &Bitmap) -> Result<Bitmap, ComputeError>
         requires { length other.now ≡ length self.now }
         ensures { MatchResult result (λ bits. bits ≡ zip2 ◌&&◌ self.now other.now) IsMemory }
@@ -20,7 +20,7 @@ impl Bitmap {
         BitMask::from_bitmap(self).and(alloc, &BitMask::from_bitmap(other))
     }
 
-    /// Returns the OR of the two bits at each index. The error is `Memory`.
+    /// Returns the bitwise OR of `self` and `other`. The error is `Memory`.
     pub fn or(&self, alloc: Global, other: &Bitmap) -> Result<Bitmap, ComputeError>
         requires { length other.now ≡ length self.now }
         ensures { MatchResult result (λ bits. bits ≡ zip2 ◌||◌ self.now other.now) IsMemory }
@@ -28,7 +28,7 @@ impl Bitmap {
         BitMask::from_bitmap(self).or(alloc, &BitMask::from_bitmap(other))
     }
 
-    /// Returns the exclusive OR of the two bits at each index. The error is `Memory`.
+    /// Returns the bitwise XOR of `self` and `other`. The error is `Memory`.
     pub fn xor(&self, alloc: Global, other: &Bitmap) -> Result<Bitmap, ComputeError>
         requires { length other.now ≡ length self.now }
         ensures { MatchResult result (λ bits. bits ≡ zip2 xor self.now other.now) IsMemory }
@@ -36,7 +36,8 @@ impl Bitmap {
         BitMask::from_bitmap(self).xor(alloc, &BitMask::from_bitmap(other))
     }
 
-    /// Returns for each index whether the two bits are equal. The error is `Memory`.
+    /// Returns for each index whether the bits of `self` and `other` are equal. The error is
+    /// `Memory`.
     pub fn xnor(&self, alloc: Global, other: &Bitmap) -> Result<Bitmap, ComputeError>
         requires { length other.now ≡ length self.now }
         ensures { MatchResult result (λ bits. bits ≡ zip2 xnor self.now other.now) IsMemory }
@@ -69,9 +70,9 @@ impl Bitmap {
         BitMask::from_bitmap(self).not(alloc)
     }
 
-    /// Returns for each row whether the two sides are equal. Null is equal only to null. `q` says
-    /// for each row whether the stored values are equal, `l` and `r` whether the row of the left
-    /// and of the right side is present. Computes `(q & l & r) | !(l | r)`. The error is `Memory`.
+    /// Returns for each row whether the left and the right side are equal. Null is equal only to
+    /// null. `q` says for each row whether the stored values are equal. `l` and `r` are the masks
+    /// of the left and the right side. Computes `(q & l & r) | !(l | r)`. The error is `Memory`.
     pub fn merge_eq(
         alloc: Global,
         q: &Bitmap,
@@ -90,9 +91,9 @@ impl Bitmap {
         )
     }
 
-    /// Returns for each row whether the two sides differ. Null is equal only to null. `q` says for
-    /// each row whether the stored values differ, `l` and `r` whether the row of the left and of
-    /// the right side is present. Computes `(q & l & r) | (l ^ r)`. The error is `Memory`.
+    /// Returns for each row whether the left and the right side differ. Null is equal only to null.
+    /// `q` says for each row whether the stored values differ. `l` and `r` are the masks of the
+    /// left and the right side. Computes `(q & l & r) | (l ^ r)`. The error is `Memory`.
     pub fn merge_ne(
         alloc: Global,
         q: &Bitmap,

@@ -23,14 +23,14 @@ use polars_arrays_bits::error::ComputeError;
 use polars_arrays_flat::primitive::PrimitiveArray;
 use std::alloc::Global;
 
-/// Arithmetic on arrays of one number type, wrapped to the type. A row of the result is null if an
-/// operand is null or the divisor is 0. A number in place of an array acts as an array that holds
-/// the number in each row.
+/// Arithmetic on arrays of one number type, wrapped to the type. Two arrays must have equal
+/// lengths. A row of the result is null if an operand is null or the divisor is 0. A number in
+/// place of an array acts as an array that holds the number in each row.
 ///
-/// If an array owns its values, they are overwritten with the result; otherwise new values are
-/// allocated. The error is `Memory`. The result owns its values, with one exception: a division of
-/// an array by the number 0 returns the array with its values unchanged, owned or shared, and with
-/// all rows null.
+/// The result overwrites the values of an array that owns them, those of the left one if both do.
+/// If none does, new values are allocated. The error is `Memory`. The result owns its values, with
+/// one exception: a division or modulus of an array by the number 0 returns the array with its
+/// values unchanged, owned or shared, and all rows null.
 pub trait PrimitiveArithmeticKernelImpl: PlNumArithmetic {
     /// Returns the absolute value of each row. The least number of a signed type has none in the
     /// type, and is unchanged.
@@ -130,8 +130,8 @@ pub trait PrimitiveArithmeticKernelImpl: PlNumArithmetic {
         divide_pairs::<Self, TruncatedQuotient>(alloc, lhs, rhs)
     }
 
-    /// Returns the modulus of the left and the right row at each index: the remainder of the
-    /// division that rounds down.
+    /// Divides the left row by the right one at each index, rounding down, and returns the
+    /// remainder (modulus).
     final fn prim_wrapping_mod(
         alloc: Global,
         lhs: PrimitiveArray<Self>,
@@ -145,7 +145,7 @@ pub trait PrimitiveArithmeticKernelImpl: PlNumArithmetic {
         divide_pairs::<Self, Modulus>(alloc, lhs, rhs)
     }
 
-    /// Adds a number to each row.
+    /// Adds the number `rhs` to each row.
     final fn prim_wrapping_add_scalar(
         alloc: Global,
         lhs: PrimitiveArray<Self>,
@@ -160,7 +160,7 @@ pub trait PrimitiveArithmeticKernelImpl: PlNumArithmetic {
         apply_right::<Self, Sum>(alloc, lhs, rhs)
     }
 
-    /// Subtracts a number from each row.
+    /// Subtracts the number `rhs` from each row.
     final fn prim_wrapping_sub_scalar(
         alloc: Global,
         lhs: PrimitiveArray<Self>,
@@ -175,7 +175,7 @@ pub trait PrimitiveArithmeticKernelImpl: PlNumArithmetic {
         apply_right::<Self, Difference>(alloc, lhs, rhs)
     }
 
-    /// Subtracts each row from a number.
+    /// Subtracts each row of `rhs` from the number `lhs`.
     final fn prim_wrapping_sub_scalar_lhs(
         alloc: Global,
         lhs: Self,
@@ -190,7 +190,7 @@ pub trait PrimitiveArithmeticKernelImpl: PlNumArithmetic {
         apply_left::<Self, Difference>(alloc, lhs, rhs)
     }
 
-    /// Multiplies each row by a number.
+    /// Multiplies each row by the number `rhs`.
     final fn prim_wrapping_mul_scalar(
         alloc: Global,
         lhs: PrimitiveArray<Self>,
@@ -205,7 +205,7 @@ pub trait PrimitiveArithmeticKernelImpl: PlNumArithmetic {
         apply_right::<Self, Product>(alloc, lhs, rhs)
     }
 
-    /// Divides each row by a number, rounding down.
+    /// Divides each row by the number `rhs`, rounding down.
     final fn prim_wrapping_floor_div_scalar(
         alloc: Global,
         lhs: PrimitiveArray<Self>,
@@ -220,7 +220,7 @@ pub trait PrimitiveArithmeticKernelImpl: PlNumArithmetic {
         divide_by::<Self, FloorQuotient>(alloc, lhs, rhs)
     }
 
-    /// Divides a number by each row, rounding down.
+    /// Divides the number `lhs` by each row of `rhs`, rounding down.
     final fn prim_wrapping_floor_div_scalar_lhs(
         alloc: Global,
         lhs: Self,
@@ -234,7 +234,7 @@ pub trait PrimitiveArithmeticKernelImpl: PlNumArithmetic {
         divide_by_each::<Self, FloorQuotient>(alloc, lhs, rhs)
     }
 
-    /// Divides each row by a number, rounding toward 0.
+    /// Divides each row by the number `rhs`, rounding toward 0.
     final fn prim_wrapping_trunc_div_scalar(
         alloc: Global,
         lhs: PrimitiveArray<Self>,
@@ -249,7 +249,7 @@ pub trait PrimitiveArithmeticKernelImpl: PlNumArithmetic {
         divide_by::<Self, TruncatedQuotient>(alloc, lhs, rhs)
     }
 
-    /// Divides a number by each row, rounding toward 0.
+    /// Divides the number `lhs` by each row of `rhs`, rounding toward 0.
     final fn prim_wrapping_trunc_div_scalar_lhs(
         alloc: Global,
         lhs: Self,
@@ -263,8 +263,7 @@ pub trait PrimitiveArithmeticKernelImpl: PlNumArithmetic {
         divide_by_each::<Self, TruncatedQuotient>(alloc, lhs, rhs)
     }
 
-    /// Returns the modulus of each row and a number as divisor: the remainder of the division that
-    /// rounds down.
+    /// Divides each row by the number `rhs`, rounding down, and returns the remainder (modulus).
     final fn prim_wrapping_mod_scalar(
         alloc: Global,
         lhs: PrimitiveArray<Self>,
@@ -279,8 +278,8 @@ pub trait PrimitiveArithmeticKernelImpl: PlNumArithmetic {
         divide_by::<Self, Modulus>(alloc, lhs, rhs)
     }
 
-    /// Returns the modulus of a number and each row as divisor: the remainder of the division that
-    /// rounds down.
+    /// Divides the number `lhs` by each row of `rhs`, rounding down, and returns the remainder
+    /// (modulus).
     final fn prim_wrapping_mod_scalar_lhs(
         alloc: Global,
         lhs: Self,

@@ -20,30 +20,31 @@ pub(crate) trait NumberOperation<T: NativeType> {
     // The operation on whole numbers, before the result is wrapped.
     ghost meaning: { Operation };
 
-    /// Returns the result wrapped to the type, or 0 if the operation has no result (a division by
-    /// 0).
+    /// Applies the operation to `x` and `y`. Returns the result wrapped to the type, or 0 if there
+    /// is none (the divisor `y` is 0).
     fn apply(x: T, y: T) -> T
         ensures { Gives T.value T.low (bit_len T.width) meaning x y result };
 }
 
-/// A division: an operation that has a result for each divisor except 0.
+/// A division or modulus: an operation that has a result for each divisor except 0.
 pub(crate) trait NumberDivision<T: DivisorNumber>: NumberOperation<T> {
     // The result for a divisor other than 0, before it is wrapped.
     ghost divided: { ℤ → ℤ → ℤ };
 
-    /// Divides `x` by `rhs`, which isn't 0. `divisor` is `rhs` as a prepared divisor.
+    /// Applies the operation to `x` and the divisor `rhs`, which isn't 0. `divisor` is `rhs` as a
+    /// prepared divisor (with its reciprocal).
     fn by_divisor(x: T, rhs: T, divisor: &T::Divisor) -> T
         requires some { T.value rhs ≢ pos 0 }
         requires same { T.divisor divisor.now ≡ T.value rhs }
         ensures { Gives T.value T.low (bit_len T.width) Self.meaning x rhs result };
 
-    /// Divides `x` by `rhs`, which is 1 or -1.
+    /// Applies the operation to `x` and the divisor `rhs`, which is 1 or -1.
     fn by_unit(x: T, rhs: T) -> T
         requires some { T.value rhs ≢ pos 0 }
         requires unit { 2 ≤ unsigned_abs (T.value rhs) → ⊥ }
         ensures { Gives T.value T.low (bit_len T.width) Self.meaning x rhs result };
 
-    // Division by 0 has no result.
+    // The operation `meaning` is `divided`, except that a divisor of 0 has no result.
     ghost division_law: { (a b : ℤ) → Self.NumberOperation.meaning a b
         ≡ unless_zero Self.divided a b };
 }

@@ -53,7 +53,7 @@ pub trait PlNumArithmetic: DivisorNumber
         WrappingAdd::wrapping_add(&self, &rhs)
     }
 
-    /// Returns the difference.
+    /// Returns the difference `self - rhs`.
     #[inline(always)]
     final fn wrapping_sub(self, rhs: Self) -> Self
         ensures { Self.value result

@@ -200,7 +200,7 @@ fn high_product(a: u64, factor: u64) -> u64
     ((a as u128 * factor as u128) >> 64) as u64
 }
 
-// Returns half of `a + b`, rounded down, also if `a + b` has more than 64 bits.
+// Returns half of `a + b`, rounded down, even if the sum has 65 bits. `b` must be at most `a`.
 #[inline(always)]
 fn half_sum(a: u64, b: u64) -> u64
     requires { b ≤ a }

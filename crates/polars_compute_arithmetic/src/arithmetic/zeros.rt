@@ -15,7 +15,7 @@ use polars_arrays_numbers::native_type::NativeType;
 use polars_compare_equality::kernel::TotalEqKernel;
 use std::alloc::Global;
 
-// Returns the divisors with each row that is 0 masked as well. The stored values are unchanged. The
+// Masks each row of `divisors` that is 0. Null rows stay null. The stored values are unchanged. The
 // error is `Memory`.
 pub(crate) fn mask_zeros<T: NativeType + Zero>(
     alloc: Global,
@@ -33,8 +33,8 @@ pub(crate) fn mask_zeros<T: NativeType + Zero>(
     }
 }
 
-// Returns the validity of the divisors, with each row that is 0 masked as well. Takes the existing
-// validity out of the array, and leaves its values unchanged. The error is `Memory`.
+// Returns a validity that masks the null rows of `divisors` and each row that is 0. Takes the
+// existing validity out of the array, and leaves its values unchanged. The error is `Memory`.
 fn nonzero_validity<T: NativeType + Zero>(
     alloc: Global,
     divisors: &mut PrimitiveArray<T>,
