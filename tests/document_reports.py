@@ -915,8 +915,30 @@ def warned(pair):
     return lines.replace(b"\n", b"; standard input was not looked at again\n")
 
 
+def refused_only(only, content):
+    """Returns the line that a run over two files with this content says if they have documents and
+    none has a part at the first step of a path of --only, and else nothing."""
+    try:
+        content.decode()
+    except UnicodeDecodeError:
+        return b""
+    trees = [tree_of(line) for line in content.split(b"\n")]
+    documents = [tree for tree, is_json in trees if is_json and isinstance(tree, Object)]
+    starts = [steps_of(path)[:1] for path in only]
+    if not only or not documents or any(has_part(it, at) for it in documents for at in starts):
+        return b""
+    if len(only) > 1:
+        return b"dunkelva: --only: no document has a part at one of these paths\n"
+    quoted = table_reports.in_quotes(only[0])
+    return f"dunkelva: --only: no document has a part at {quoted}\n".encode()
+
+
 def is_right(ran, pair):
     """Returns whether a run over a pair did as it has to."""
+    content = b"\n".join((pair.left_bytes, pair.right_bytes))
+    refused = refused_only(pair.options.get("only", ()), content)
+    if refused and pair.options["piped"] is None:
+        return ran == (2, b"", refused)
     status, report = wanted(pair)
     if ran.status != status:
         return False

@@ -26,8 +26,8 @@ fn list_of<N: ByteRows>(alloc: Global, names: &N) -> Result<String> {
     Ok(text)
 }
 
-/// Returns the index of the name in `names` that is most similar to `wanted` (`distance`), or `None`
-/// if no name is similar. If several names are equally similar, returns the first one.
+/// Returns the index of the name in `names` that is most similar to `wanted` (`distance`). Returns
+/// `None` if no name is similar. If several names are equally similar, returns the first one.
 fn nearest<N: ByteRows>(names: &N, wanted: &[u8]) -> Option<usize> {
     let mut least = usize::MAX;
     let mut near = None;
@@ -60,14 +60,16 @@ fn other_delimiter<N: ByteRows>(names: &N, delimiter: u8) -> Option<char> {
 
 /// Returns a question for a hint: whether `other` is the real delimiter of a file that was read
 /// with `delimiter`. The question names the option `--delimiter` if `other` is the byte 1 or
-/// `delimiter` is a comma. Otherwise it says that both files need the same delimiter. Returns `None`
-/// if an allocation fails.
+/// `delimiter` is a comma, and otherwise names a program that converts a file. Returns `None` if an
+/// allocation fails.
 fn question_about_delimiter(alloc: Global, other: char, delimiter: u8) -> Option<String> {
     if other == '\u{1}' {
         return String::from_str(alloc, "is the byte 1 the --delimiter? It is \\x01.").ok();
     }
     if delimiter == b',' {
-        return format!(in alloc; "is {other:?} the --delimiter?").ok();
+        return format!(in alloc;
+            "is {other:?} the --delimiter? Both files need the same one."
+        ).ok();
     }
     let both = "Both files need the same one: convert one of them, as csvformat does.";
     format!(in alloc; "is {other:?} its delimiter? {both}").ok()

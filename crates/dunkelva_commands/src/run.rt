@@ -4,7 +4,7 @@ use crate::outputs::refuse_own_target;
 use crate::schema::show_schema;
 use crate::schema_changes::compare_schemas;
 use crate::tasks::{Task, compare_named};
-use crate::unfound::warn_of_unknown;
+use crate::unfound::{refuse_unknown_only, warn_of_unknown};
 use clap::ArgMatches;
 use diff_columns::choice::Choice;
 use diff_run::options::Options;
@@ -91,7 +91,7 @@ fn diff_tables(
 /// Compares the files of documents `left` and `right` with the given keys and rules. The other
 /// options are those in `matches`. Writes the report to `target`, and returns the exit status.
 /// Prints warnings about paths in options at which no document has a part. Fails if an option is
-/// invalid, or if the comparison fails.
+/// invalid, if no document has a part where a path of `--only` begins, or if the comparison fails.
 fn diff_by_paths(
     rt: &HostRuntime,
     matches: &ArgMatches<'_>,
@@ -114,6 +114,7 @@ fn diff_by_paths(
         format: format_of(matches),
         colored: is_colored(rt, matches),
     };
+    refuse_unknown_only(rt, matches, rules, left, right)?;
     let status = compare_named(rt, left, right, true, Task::Documents(&options), target)?;
     warn_of_unknown(rt, matches, keys, rules, left, right);
     Ok(status)

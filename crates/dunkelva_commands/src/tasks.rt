@@ -11,6 +11,7 @@ use diff_run::options::Options;
 use diff_run::run::{Input, run};
 use diff_sorted::error::SortedError;
 use diff_sorted::run::run_sorted;
+use diff_words::formats::Format;
 use document_run::error::DocumentError;
 use document_run::options::DocumentOptions;
 use document_run::run::run_documents;
@@ -71,16 +72,40 @@ impl Task<'_> {
             Task::Documents(options) => options.keys.is_empty(),
         }
     }
+
+    /// Returns the greatest number of differences to print as JSON lines. Returns `None` if the
+    /// report is text, has all differences, or has the counts alone.
+    fn limit_of_lines(self) -> Option<usize> {
+        let (format, limit) = match self {
+            Task::Tables(options) | Task::Sorted(options) => (options.format, options.limit),
+            Task::Documents(options) => (options.format, options.limit),
+        };
+        match format {
+            Format::Json if 0 < limit && limit < usize::MAX => Some(limit),
+            _ => None,
+        }
+    }
 }
 
-/// Prints advice on standard error to give `--key`, if `ending` is `Different`, no key is given for
-/// `task`, and standard error is a terminal.
-fn advise(rt: &HostRuntime, task: Task<'_>, ending: Ending) {
-    if let Ending::Different = ending
-        && task.is_by_position()
-        && rt.stderr().is_terminal()
-    {
+/// Prints advice on standard error, if `ending` is `Different` and standard error is a terminal: to
+/// give `--key`, if no key is given for `task`, and to give `--limit 0`, if the report for `target`
+/// is JSON lines that may not have all differences.
+fn advise(rt: &HostRuntime, task: Task<'_>, target: Target<'_>, ending: Ending) {
+    let Ending::Different = ending else {
+        return;
+    };
+    if !rt.stderr().is_terminal() {
+        return;
+    }
+    if task.is_by_position() {
         let _ = eprintln!(rt; "dunkelva: rows were matched by position; --key matches them by key");
+    }
+    if let Target::Output = target
+        && let Some(limit) = task.limit_of_lines()
+    {
+        let _ = eprintln!(rt;
+            "dunkelva: at most {limit} differences are printed; --limit 0 prints all"
+        );
     }
 }
 
@@ -326,7 +351,7 @@ fn compare(
     progress.erase();
     match ending {
         Ok(ending) => {
-            advise(rt, task, ending);
+            advise(rt, task, target, ending);
             Ok(ending.status())
         }
         Err(error) => Err(error),

@@ -1,13 +1,16 @@
-//! Warnings about paths in options at which no document has a part.
+//! Errors and warnings about paths in options at which no document has a part.
 //!
-//! If no document has a part at any path of `--only`, no difference is found, whatever the
-//! documents are. A misspelt path of `--ignore` or of a tolerance has no effect. With
-//! `--no-key-is-null`, a misspelt path of `--key` makes this part of the key null in all documents.
-//! Such paths are therefore reported on standard error after the comparison. For this the files are
-//! read again.
+//! If no document has a part at the first step of any path of `--only`, no difference is found,
+//! whatever the documents are: such a comparison is refused. A misspelt path of `--ignore` or of a
+//! tolerance has no effect. With `--no-key-is-null`, a misspelt path of `--key` makes this part of
+//! the key null in all documents. All paths at which no document has a part are reported on standard
+//! error after the comparison. To find paths, the files are read once more.
 
 use clap::ArgMatches;
+use dunkelva_messages::error::{Error, Result};
 use dunkelva_messages::files::open_again;
+use dunkelva_messages::names::quoted;
+use dunkelva_messages::trouble;
 use dunkelva_options::lists::split_lists;
 use dunkelva_settings::keys::Keys;
 use dunkelva_settings::rules::{ABSOLUTE, RELATIVE};
@@ -22,10 +25,12 @@ use std::io::{BufRead, BufReader};
 /// The name of the option that selects the parts to compare.
 const ONLY: &str = "only";
 
-/// The meaning of a path in an option: the parts that fit a pattern, or a single part.
+/// What to look for in a document: parts that fit a pattern, parts at the pattern's first step
+/// alone, or the part at a path.
 #[derive(Clone, Copy)]
 enum Named<'p> {
     Parts(&'p Pattern),
+    Start(&'p Pattern),
     Part(&'p Path),
 }
 
@@ -43,6 +48,8 @@ struct Sought<'a, 'p> {
 #[derive(Drop)]
 struct Search<'a, 'p> {
     sought: Vec<Sought<'a, 'p>>,
+    /// `true` if the search is over once one of the paths is found, and not only once all are.
+    needs_one: bool,
     /// `true` if a line with a JSON object was read.
     has_documents: bool,
 }
@@ -93,11 +100,23 @@ fn has_part(alloc: Global, pattern: &Pattern, document: &Value<'_>) -> Result<bo
     Ok(!parts.is_empty())
 }
 
+/// Returns whether `document` has a part at the first step of `pattern`. A pattern without steps
+/// gives true.
+fn has_start(alloc: Global, pattern: &Pattern, document: &Value<'_>) -> Result<bool, AllocError> {
+    let Some(step) = pattern.steps.first() else {
+        return Ok(true);
+    };
+    let mut parts = Vec::new(alloc);
+    push_inside(&mut parts, step, document)?;
+    Ok(!parts.is_empty())
+}
+
 impl Named<'_> {
-    /// Returns whether `document` has a part that fits the pattern, or the part at the path.
+    /// Returns whether `document` has a part that is looked for.
     fn is_in(self, alloc: Global, document: &Value<'_>) -> Result<bool, AllocError> {
         match self {
             Named::Parts(pattern) => has_part(alloc, pattern, document),
+            Named::Start(pattern) => has_start(alloc, pattern, document),
             Named::Part(path) => Ok(path.part_of(document).is_some()),
         }
     }
@@ -229,14 +248,22 @@ impl Search<'_, '_> {
         Ok(())
     }
 
-    /// Returns whether all paths were found.
+    /// Returns whether at least one path was found.
+    fn has_found(&self) -> bool {
+        self.sought.iter().any(|sought| sought.is_found)
+    }
+
+    /// Returns whether the search is over: all paths were found, or one if `needs_one` is true.
     fn is_over(&self) -> bool {
+        if self.needs_one {
+            return self.has_found();
+        }
         self.sought.iter().all(|sought| sought.is_found)
     }
 
-    /// Opens the regular file `file` again, after the comparison has read it, and searches its
-    /// lines for the paths. Stops once every path is found. Returns `None` if `file` isn't a
-    /// regular file, if it can't be opened or read, or if memory runs out.
+    /// Opens the regular file `file`, apart from the comparison, and searches its lines for the
+    /// paths until the search is over. Returns `None` if `file` isn't a regular file, if it can't
+    /// be opened or read, or if memory runs out.
     fn search_file(&mut self, rt: &HostRuntime, file: &str) -> Option<()> {
         let source = open_again(rt, file)?;
         let reader = BufReader::new(rt.alloc(), source).ok()?;
@@ -250,9 +277,8 @@ impl Search<'_, '_> {
         Some(())
     }
 
-    /// Searches the file `first` for the paths, and then `second`, if it can be read again and a
-    /// path is not yet found. Returns `None` if a file to search can't be read, or if memory runs
-    /// out.
+    /// Searches the file `first` for the paths, and then `second`, if it can be read again and the
+    /// search is not over. Returns `None` if a file to search can't be read, or if memory runs out.
     fn search_files(&mut self, rt: &HostRuntime, first: &str, second: Second<'_>) -> Option<()> {
         self.search_file(rt, first)?;
         match second {
@@ -314,6 +340,7 @@ fn search_and_warn(
     }
     let mut search = Search {
         sought,
+        needs_one: false,
         has_documents: false,
     };
     search.search_files(rt, first, second)?;
@@ -323,6 +350,78 @@ fn search_and_warn(
         }
     }
     Some(())
+}
+
+/// Appends the patterns of `--only` to `sought`, to be looked for by their first steps. `patterns`
+/// are the patterns parsed from the lists of `--only`, in the same order.
+fn push_starts<'a, 'p>(
+    sought: &mut Vec<Sought<'a, 'p>>,
+    alloc: Global,
+    matches: &ArgMatches<'a>,
+    patterns: &'p [Pattern],
+) -> Result<(), AllocError> {
+    let texts = split_lists(alloc, matches.get_strs(ONLY).unwrap_or(&[]))?;
+    for (text, pattern) in texts.iter().zip(patterns) {
+        sought.push(Sought {
+            option: ONLY,
+            text: *text,
+            named: Named::Start(pattern),
+            is_found: false,
+        })?;
+    }
+    Ok(())
+}
+
+/// Searches the files `left` and `right` for the first steps of the paths of `--only`, which
+/// `rules` has. Returns an error if there are documents, and none has a part at one of these steps.
+/// Otherwise, or if a file can't be read again, or if memory runs out, returns `None`.
+fn unknown_only(
+    rt: &HostRuntime,
+    matches: &ArgMatches<'_>,
+    rules: &Rules,
+    left: &str,
+    right: &str,
+) -> Option<Error> {
+    let (first, second) = in_order(rt, left, right)?;
+    if let Second::Gone(_) = second {
+        return None;
+    }
+    let mut sought = Vec::new(rt.alloc());
+    push_starts(&mut sought, rt.alloc(), matches, &rules.only).ok()?;
+    let mut search = Search {
+        sought,
+        needs_one: true,
+        has_documents: false,
+    };
+    search.search_files(rt, first, second)?;
+    if search.has_found() || !search.has_documents {
+        return None;
+    }
+    let path = search.sought.first()?.text;
+    if search.sought.len() > 1 {
+        return Some(trouble!("--{ONLY}: no document has a part at one of these paths"));
+    }
+    Some(trouble!("--{ONLY}: no document has a part at {}", quoted(path)))
+}
+
+/// Fails if `--only` is given, the files `left` and `right` have documents, and none of these has a
+/// part at the first step of one of its paths, so that nothing would be compared. Does not fail if
+/// a file can't be read again, since the part may be in that file. `rules` is parsed from the
+/// options.
+pub(crate) fn refuse_unknown_only(
+    rt: &HostRuntime,
+    matches: &ArgMatches<'_>,
+    rules: &Rules,
+    left: &str,
+    right: &str,
+) -> Result<()> {
+    if rules.only.is_empty() {
+        return Ok(());
+    }
+    match unknown_only(rt, matches, rules, left, right) {
+        Some(error) => Err(error),
+        None => Ok(()),
+    }
 }
 
 /// Prints a warning for each path of `--only`, `--ignore` and the tolerances at which no document
