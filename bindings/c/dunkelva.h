@@ -11,14 +11,18 @@
  *   0, means success. After any other status all memory that the call writes is unchanged.
  * - The memory that a call writes must not overlap the memory that the call reads, nor other memory
  *   that the call writes. So a state of distinct values can't be merged with itself, and
- *   `least` and `greatest` of `dunkelva_min_max` must be two structs.
+ *   `least` and `greatest` of `dunkelva_min_max` must be two structs. No call checks this, except
+ *   that arithmetic checks `values` in part: see `dunkelva_arithmetic`.
  * - The library has no state of its own: nothing is stored between two calls. A call runs in the
  *   thread of its caller. Many threads can call at the same time, also with the same columns. Two
  *   calls at the same time must not write to the same memory, and a call must not read memory that
  *   another one writes, such as a state. During a call nothing may change or release its columns.
  * - A result depends only on the rows of a column. It does not depend on values that are stored
  *   under nulls, on offsets, on how rows are split into buffers, or on whether a column without
- *   nulls has a validity bitmap. The member `null_count` is never read.
+ *   nulls has a validity bitmap. There are two exceptions: the number `comparisons` of
+ *   `dunkelva_equal_rows` can depend on how a column is stored, for example on values under nulls,
+ *   and the numbers that arithmetic and `dunkelva_count_bits` write for null rows have no meaning.
+ *   The member `null_count` is never read.
  * - Each buffer must be as long as the interface requires. The interface does not pass the lengths
  *   of buffers, so no call can check them. A call checks everything else about an array, as far as
  *   the result depends on it, and returns a status if it finds a fault.
@@ -119,7 +123,8 @@ enum dunkelva_status {
    * - rows lie outside of a column;
    * - a pointer for results, to a number or to a state is null;
    * - a given number has `exists` 0;
-   * - `values` is not at a multiple of the size of its numbers, or overlaps a column;
+   * - `values` is not at a multiple of the size of its numbers, or overlaps the numbers of a column
+   *   (`dunkelva_arithmetic` says what is checked);
    * - the ends of a range are not in order, or the range has too many numbers. */
   DUNKELVA_BAD_ARGUMENT = 7,
   /* A row of a column is outside of the range of a state. */
@@ -198,7 +203,8 @@ int32_t dunkelva_equal_bytes(const struct ArrowSchema *left_type, const struct A
  * `out`, but the types are compared.
  *
  * `comparisons` may be null. If it is not null, the call stores there how many leaf values were
- * compared. A leaf value is a stored number, truth value, text or byte string.
+ * compared. A leaf value is a stored number, truth value, text or byte string. Values under null
+ * structs can count too.
  *
  * Returns a status of columns, or
  * - DUNKELVA_TYPES_DIFFER if the columns differ in type,
@@ -371,8 +377,10 @@ enum dunkelva_operation {
  * - `values` gets the results, as an array of the integer type that the columns store, such as
  *   int32_t for the format "i". The call writes as many integers as a column has rows. The integer
  *   of a null result has no meaning. `values` must be at an address that is a multiple of the size
- *   of an integer, and must not overlap the memory of a column. `values_len` is the number of
- *   integers for which `values` has memory.
+ *   of an integer, and must not overlap the memory of a column. The call checks whether what it
+ *   writes to `values` overlaps the integers of a column, if these too are at such an address. It
+ *   checks no other overlap, such as one with a validity bitmap or with `present`. `values_len` is
+ *   the number of integers for which `values` has memory.
  * - `present` gets a validity bitmap: bit i is 1 if result i is not null, and else 0. The call
  *   writes (length + 7) / 8 bytes, laid out as by `dunkelva_equal`; the bits after the last row are
  *   0. `present_bytes` is the size of `present` in bytes.

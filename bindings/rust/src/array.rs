@@ -76,8 +76,9 @@ pub struct Array<'a> {
 /// Changes and windows.
 impl<'a> Array<'a> {
     /// Sets which rows are null: the rows whose bit in `present` is 0. No result depends on the
-    /// values that are stored under nulls. The bits of a [`Bitmap`] or a `&Mask` are borrowed, and
-    /// a [`Mask`] is owned.
+    /// values that are stored under nulls, except the count of
+    /// [`equal_counted`](crate::equal_counted). The bits of a [`Bitmap`] or a `&Mask` are borrowed,
+    /// and a [`Mask`] is owned.
     ///
     /// # Errors
     ///

@@ -184,7 +184,8 @@ pub fn equal_with(
 }
 
 /// Compares two arrays as [`equal_with`] does, and counts the leaf values that were compared. A
-/// leaf value is a stored number, truth value, text or byte string.
+/// leaf value is a stored number, truth value, text or byte string. Values under null structs can
+/// count too.
 ///
 /// # Errors
 ///
@@ -251,6 +252,8 @@ pub fn is_null(array: &Array<'_>) -> Result<Mask, Error> {
 ///
 /// - [`Error::LengthMismatch`] or [`Error::TypeMismatch`], if the arrays differ in length or type.
 /// - [`Error::Unsupported`], if an array has another type.
+/// - [`Error::BadStructs`] or [`Error::BadArray`], if the structs or the offsets of a column of
+///   another crate are wrong.
 /// - [`Error::NoMemory`], if an allocation fails.
 ///
 /// # Examples
@@ -278,6 +281,8 @@ pub fn compare(left: &Array<'_>, comparison: Comparison, right: &Array<'_>) -> R
 ///
 /// - [`Error::NotRepresentable`], if the type of the array can't represent the number.
 /// - [`Error::Unsupported`], if the array has another type.
+/// - [`Error::BadStructs`] or [`Error::BadArray`], if the structs or the offsets of a column of
+///   another crate are wrong.
 /// - [`Error::NoMemory`], if an allocation fails.
 ///
 /// # Examples
@@ -315,8 +320,10 @@ pub fn compare_number(
 ///
 /// # Errors
 ///
-/// [`Error::Unsupported`], if the array has another type; [`Error::NoMemory`], if an allocation
-/// fails.
+/// - [`Error::Unsupported`], if the array has another type.
+/// - [`Error::BadStructs`] or [`Error::BadArray`], if the structs or the offsets of a column of
+///   another crate are wrong.
+/// - [`Error::NoMemory`], if an allocation fails.
 ///
 /// # Examples
 ///
@@ -342,8 +349,10 @@ pub fn wrapping_sum(array: &Array<'_>) -> Result<Option<i128>, Error> {
 ///
 /// # Errors
 ///
-/// [`Error::Unsupported`], if the array has another type; [`Error::NoMemory`], if an allocation
-/// fails.
+/// - [`Error::Unsupported`], if the array has another type.
+/// - [`Error::BadStructs`] or [`Error::BadArray`], if the structs or the offsets of a column of
+///   another crate are wrong.
+/// - [`Error::NoMemory`], if an allocation fails.
 ///
 /// # Examples
 ///
@@ -368,8 +377,10 @@ pub fn min_max(array: &Array<'_>) -> Result<Option<(i128, i128)>, Error> {
 ///
 /// # Errors
 ///
-/// [`Error::Unsupported`], if the array has another type; [`Error::NoMemory`], if an allocation
-/// fails.
+/// - [`Error::Unsupported`], if the array has another type.
+/// - [`Error::BadStructs`] or [`Error::BadArray`], if the structs or the offsets of a column of
+///   another crate are wrong.
+/// - [`Error::NoMemory`], if an allocation fails.
 pub fn min(array: &Array<'_>) -> Result<Option<i128>, Error> {
     Ok(min_max(array)?.map(|(least, _)| least))
 }
@@ -381,8 +392,10 @@ pub fn min(array: &Array<'_>) -> Result<Option<i128>, Error> {
 ///
 /// # Errors
 ///
-/// [`Error::Unsupported`], if the array has another type; [`Error::NoMemory`], if an allocation
-/// fails.
+/// - [`Error::Unsupported`], if the array has another type.
+/// - [`Error::BadStructs`] or [`Error::BadArray`], if the structs or the offsets of a column of
+///   another crate are wrong.
+/// - [`Error::NoMemory`], if an allocation fails.
 pub fn max(array: &Array<'_>) -> Result<Option<i128>, Error> {
     Ok(min_max(array)?.map(|(_, greatest)| greatest))
 }
@@ -394,8 +407,10 @@ pub fn max(array: &Array<'_>) -> Result<Option<i128>, Error> {
 ///
 /// # Errors
 ///
-/// [`Error::Unsupported`], if the array has another type; [`Error::NoMemory`], if an allocation
-/// fails.
+/// - [`Error::Unsupported`], if the array has another type.
+/// - [`Error::BadStructs`] or [`Error::BadArray`], if the structs or the offsets of a column of
+///   another crate are wrong.
+/// - [`Error::NoMemory`], if an allocation fails.
 ///
 /// # Examples
 ///

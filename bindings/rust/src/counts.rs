@@ -16,8 +16,10 @@ macro_rules! counts {
             ///
             /// # Errors
             ///
-            /// [`Error::Unsupported`], if the array has another type; [`Error::NoMemory`], if an
-            /// allocation fails.
+            /// - [`Error::Unsupported`], if the array has another type.
+            /// - [`Error::BadStructs`] or [`Error::BadArray`], if the structs or the offsets of a
+            ///   column of another crate are wrong.
+            /// - [`Error::NoMemory`], if an allocation fails.
             ///
             /// # Examples
             ///

@@ -77,6 +77,8 @@ impl Unique {
     /// - [`Error::OutOfUniqueRange`], if a row that is not null is outside of the range.
     /// - [`Error::NotRepresentable`], if the type of the array can't represent an end of the range.
     /// - [`Error::Unsupported`], if the array has another type.
+    /// - [`Error::BadStructs`] or [`Error::BadArray`], if the structs or the offsets of a column of
+    ///   another crate are wrong.
     /// - [`Error::NoMemory`], if an allocation fails.
     pub fn append(&mut self, array: &Array<'_>) -> Result<(), Error> {
         let structs = Structs::of(array);
@@ -105,6 +107,7 @@ impl Unique {
     }
 
     /// Returns the number of distinct rows. Null counts as one, if it was appended.
+    /// [`values`](Unique::values) leaves null out.
     pub fn count(&self) -> u64 {
         self.counts().1
     }
