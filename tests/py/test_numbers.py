@@ -86,6 +86,28 @@ def test_sums() -> None:
     assert dunkelva.reduce_xor(Streamed([column("c", [row], 3) for row in (-1, 5)])) == -6
 
 
+def test_intervals() -> None:
+    """Intervals of months are numbers, those of days and milliseconds are pairs of numbers."""
+    day, second = 1, 1000 << 32
+    pairs = Exported(column("tiD", [day, second, None, day], 1))
+    calls: Any = (dunkelva.sum, dunkelva.min_max, dunkelva.reduce_or, dunkelva.count_ones,
+                  dunkelva.negative, lambda it: dunkelva.add(it, it),
+                  lambda it: dunkelva.add(it, 1), lambda it: dunkelva.compare(it, "<", it),
+                  lambda it: dunkelva.compare(it, "==", it),
+                  lambda it: dunkelva.compare(it, "<", 1))
+    for call in calls:
+        with pytest.raises(dunkelva.NotServed, match="days and milliseconds"):
+            call(pairs)
+    assert dunkelva.equal(pairs, pairs).all()
+    assert dunkelva.is_null(pairs).tolist() == [False, False, True, False]
+    distinct: Any = dunkelva.unique(pairs)
+    assert distinct.tolist() == [day, second, None]
+    assert dunkelva.n_unique(pairs) == 3
+    months = Exported(column("tiM", [1, 12, None], 1))
+    assert dunkelva.min_max(months) == (1, 12) and dunkelva.sum(months) == 13
+    assert dunkelva.compare(months, "<=", months).tolist() == [True, True, False]
+
+
 def test_extremes() -> None:
     assert dunkelva.min_max(np.array([-128, 127, 0], "i1")) == (-128, 127)
     assert dunkelva.max([2 ** 64 - 1, 1]) == 2 ** 64 - 1

@@ -225,6 +225,89 @@ def test_lists() -> None:
     assert equal([np.int8(1), 2], (1, np.int64(3))) == [True, False]
 
 
+WHOLE = 2 ** 53 + 1  # no float64 is this number
+WRONG: Any = [WHOLE, -WHOLE, np.int64(WHOLE), np.uint64(WHOLE), np.int64(-WHOLE),
+              np.longdouble(2 ** 53) + 1]
+
+
+@pytest.mark.parametrize("number", WRONG)
+def test_lists_of_floats_are_exact(number: Any) -> None:
+    """A whole number that no float is can't be rounded to one, wherever it is in a list."""
+    near = float(2 ** 53)
+    column: Any
+    for column in ([number, 0.5], [[number], [0.5]], [{"a": number}, {"a": 0.5}],
+                   pd.Series([number, 0.5], dtype=object), np.array([number, 0.5], object)):
+        for sides in ((column, [0.5, 0.5]), (column, column), ([0.5, 0.5], column)):
+            with pytest.raises(dunkelva.TypesDiffer):
+                dunkelva.equal(*sides, floats_by_bits=True)
+    for column, rows in ((np.array([near]), [number]), (np.array([[near]]), [[number]]),
+                         (pd.Series([near], dtype="Float64"), [number]),
+                         (pd.Series(pd.Categorical([near])), [number]),
+                         ({"a": np.array([near])}, {"a": [number]}),
+                         (pd.DataFrame({"a": [near]}), [{"a": number}])):
+        for sides in ((column, rows), (rows, column)):
+            with pytest.raises(dunkelva.TypesDiffer, match="no float64"):
+                dunkelva.equal(*sides, floats_by_bits=True)
+
+
+@pytest.mark.parametrize("dtype, bits", [("f2", 11), ("f4", 24), ("f8", 53)])
+def test_lists_read_as_floats(dtype: str, bits: int) -> None:
+    """Whole numbers are exact in a type of floats, and other floats are rounded to it."""
+    most = 2 ** bits
+    kinds: Any = (int, np.int64, np.uint64)
+    for kind in kinds:
+        for number in (0, 1, most - 1, most, 2 * most - 2 if bits > 11 else most):
+            assert equal(np.array([number], dtype), [kind(number)], floats_by_bits=True) == [True]
+        for number in (most + 1, 2 * most - 1):
+            with pytest.raises(dunkelva.TypesDiffer, match=f"right: {number} is no float"):
+                dunkelva.equal(np.array([most], dtype), [kind(number)], floats_by_bits=True)
+    tenth = np.array([0.1], dtype)
+    assert equal(tenth, [0.1], floats_by_bits=True) == [True]
+    limit = np.array([np.inf, -np.inf, np.nan], dtype)
+    assert equal(limit, [float("inf"), np.float32(-np.inf), float("nan")],
+                 floats_by_bits=True) == [True] * 3
+    for large in (10 ** 400, -10 ** 400, np.longdouble("1e400")):
+        with pytest.raises(dunkelva.TypesDiffer, match="is no float"):
+            dunkelva.equal(limit[:1], [large], floats_by_bits=True)
+    if dtype != "f8":
+        with pytest.raises(dunkelva.TypesDiffer, match="right: 1e[+]300 is no float"):
+            dunkelva.equal(limit[:1], [1e300], floats_by_bits=True)
+    for other in (True, np.True_, decimal.Decimal(1), np.timedelta64(1, "s")):
+        with pytest.raises(dunkelva.TypesDiffer, match="right: a row of .* is no float"):
+            dunkelva.equal(np.array([1], dtype), [other], floats_by_bits=True)
+
+
+def test_lists_of_integers_of_numpy() -> None:
+    """Integers of numpy of two types are compared as whole numbers, and not as floats."""
+    most = 2 ** 63
+    assert equal([np.int64(most - 1), np.uint64(most)], [most - 1, most]) == [True, True]
+    assert equal([np.uint64(most), np.int64(most - 1)], [most - 1, most]) == [False, False]
+    assert equal([np.int64(-1), np.uint64(2 * most - 1)], [-1, 2 * most - 1]) == [True, True]
+    assert equal([decimal.Decimal("0.5"), np.uint64(most)], [np.int64(0), most]) == [False, True]
+    with pytest.raises(dunkelva.TypesDiffer, match=f"right: {most} is no int64"):
+        dunkelva.equal(np.array([-most]), [np.uint64(most)])
+    prices = Exported(column("d:9,2", [500], 1))
+    assert equal(prices, [np.int8(5)]) == [True]
+    for other in (True, np.timedelta64(5, "ns")):
+        for side in (prices, np.array([5])):
+            with pytest.raises(dunkelva.TypesDiffer, match="right: .* is no (decimal|int64)"):
+                dunkelva.equal(side, [other])
+
+
+def test_lists_of_numpy_times() -> None:
+    """Times of other units are neither rounded nor wrapped around."""
+    old = np.array(["1500-01-01"], "M8[s]")
+    for unit in ("Y", "M", "D", "h", "s", "ms"):
+        assert equal(old, [np.datetime64("1500-01-01", unit)]) == [True]
+    assert equal([np.datetime64(5000, "ps")], [np.datetime64(5, "ns")]) == [True]
+    late = np.datetime64("3000-01-01", "s")
+    for wrong, other in ((np.datetime64(1, "ps"), np.datetime64(0, "ns")), (late, late),
+                         (np.timedelta64(1, "as"), np.timedelta64(0, "ns")),
+                         (np.timedelta64(1, "Y"), np.timedelta64(0, "ns"))):
+        with pytest.raises(dunkelva.TypesDiffer, match="is no (timestamp|duration)"):
+            dunkelva.equal([wrong], [other])
+
+
 def test_many_rows() -> None:
     rows = 100_003
     left = np.arange(rows, dtype=np.int32)

@@ -94,7 +94,8 @@ def two_columns(left: object, right: object) -> Tuple[Column, Column]:
 def number_of_value(column: Column, value: object, names: Tuple[str, str]) -> Number:
     """Returns a value as a number of a column. `names` are those of the column and the value."""
     kind = column.type
-    is_number = kind.number() is not None and kind.entries is None and not kind.has_floats()
+    is_number = (kind.number() is not None and kind.entries is None and not kind.has_floats()
+                 and kind.format != "tiD")
     try:
         kept = build([value], kind) if is_number else None
     except Unfit as error:
@@ -152,8 +153,9 @@ def compare(left: object, test: str, right: object) -> npt.NDArray[np.bool_]:
     Parameters
     ----------
     left : column of numbers
-        A column of integers of 8 to 64 bits, dates, times, durations, timestamps, or decimals of 32
-        or 64 bits. For other columns see `equal`.
+        A column of integers of 8 to 64 bits, dates, times, durations, timestamps, intervals of
+        months, or decimals of 32 or 64 bits. For other columns, also intervals of days and
+        milliseconds, see `equal`.
     test : {"==", "!=", "<", "<=", ">", ">="}
         The comparison. For "==" and "!=" a null is equal only to a null. The other comparisons are
         False if a row is null.

@@ -18,6 +18,11 @@ _MICROSECOND = datetime.timedelta(microseconds=1)
 _EXACT = decimal.Context(prec=200, traps=[decimal.InvalidOperation, decimal.Inexact])
 _PER_SECOND = {"s": 1, "m": 10 ** 3, "u": 10 ** 6, "n": 10 ** 9}
 
+# The units of numpy's times and spans that have one length. Spans without a unit are nanoseconds.
+_ATTOSECONDS = {"as": 1, "fs": 10 ** 3, "ps": 10 ** 6, "ns": 10 ** 9, "generic": 10 ** 9,
+                "us": 10 ** 12, "ms": 10 ** 15, "s": 10 ** 18, "m": 60 * 10 ** 18,
+                "h": 3600 * 10 ** 18, "D": 86_400 * 10 ** 18, "W": 604_800 * 10 ** 18}
+
 
 class Unfit(ValueError):
     """Values that make no column."""
@@ -76,7 +81,7 @@ def infer(values: Iterable[object]) -> Type:
     present = [row for row in rows if row is not None] if type(None) in kinds else list(rows)
     classes = {_class_of(kind) for kind in kinds - {type(None)}}
     if classes == {"int", "float"}:
-        if any(isinstance(value, int) and abs(value) > 2 ** 53 for value in present):
+        if not all(_is_float(value, "f8") for value in present if _is_whole(type(value))):
             raise Unfit("there are floats, and whole numbers that no float is")
         return Type("g")
     if classes == {"int", "Decimal"}:
@@ -86,15 +91,33 @@ def infer(values: Iterable[object]) -> Type:
     return _INFER[classes.pop()](present) if classes else Type("n")
 
 
+def _is_whole(kind: type) -> bool:
+    """Says whether a class is one of whole numbers. np.timedelta64 is an np.integer, but none."""
+    return issubclass(kind, (int, np.integer)) and not issubclass(kind, (bool, np.timedelta64))
+
+
+def _is_float(number: Any, kind: str) -> bool:
+    """Says whether a whole number is a float of a type, without rounding."""
+    size, limits = abs(int(number)), np.finfo(kind)
+    length = size.bit_length()
+    return length <= limits.maxexp and length - (size & -size).bit_length() <= limits.nmant
+
+
+def _ints(values: List[Any]) -> List[int]:
+    """Returns whole numbers as ints. Numpy would compare an np.int64 and an np.uint64 as floats."""
+    return values if set(map(type, values)) <= {int} else [int(value) for value in values]
+
+
 def _integers(values: List[Any]) -> Type:
-    low, high = min(values), max(values)
+    numbers = _ints(values)
+    low, high = min(numbers), max(numbers)
     if -2 ** 63 <= low and high < 2 ** 63:
         return Type("l")
-    return Type("L") if low >= 0 and high < 2 ** 64 else _decimals(values)
+    return Type("L") if low >= 0 and high < 2 ** 64 else _decimals(numbers)
 
 
 def _decimals(values: List[Any]) -> Type:
-    numbers = [decimal.Decimal(int(v)) if isinstance(v, (int, np.integer)) else v for v in values]
+    numbers = [decimal.Decimal(int(v)) if _is_whole(type(v)) else v for v in values]
     if not all(number.is_finite() for number in numbers):
         raise Unfit("there are decimals that are no numbers")
     parts = [number.as_tuple() for number in numbers]
@@ -258,7 +281,7 @@ def _fixed(row: Any, type: Type, width: int) -> bytes:
             raise Unfit(f"{row!r} is no {type}")
         return bytes(row)
     try:
-        number = decimal.Decimal(int(row)) if isinstance(row, (int, np.integer)) else row
+        number = decimal.Decimal(int(row)) if _is_whole(row.__class__) else row
         scaled = number.scaleb(int(type.format.split(",")[1]), _EXACT)
         return int(_EXACT.to_integral_exact(scaled)).to_bytes(width, "little", signed=True)
     except (ArithmeticError, AttributeError, ValueError, decimal.DecimalException) as error:
@@ -272,19 +295,47 @@ def _numbers(rows: Sequence[Any], type: Type) -> npt.NDArray[Any]:
     dtype = np.dtype(kind)
     if type.format not in NUMBERS:
         rows = [None if row is None else _time(row, type) for row in rows]
-    wanted: Tuple[Any, ...] = (int, np.integer)
-    if dtype.kind == "f":
-        wanted = (float, np.floating, int, np.integer)
+    has_floats = dtype.kind == "f"
     for row_class in _classes(rows):
-        if not issubclass(row_class, wanted) or issubclass(row_class, (bool, np.bool_)):
+        if not _is_whole(row_class) and not (
+                has_floats and issubclass(row_class, (float, np.floating))):
             raise Unfit(f"a row of {row_class.__name__} is no {type}")
-    filled = [0 if row is None else row for row in rows]
-    if dtype.kind != "f" and filled:
+    if has_floats:
+        return _floats(rows, type, kind)
+    filled = _ints([0 if row is None else row for row in rows])
+    if filled:
         limits = np.iinfo(dtype)
         for extreme in (min(filled), max(filled)):
             if not limits.min <= extreme <= limits.max:
                 raise Unfit(f"{extreme} is no {type}")
     return np.array(filled, dtype)
+
+
+def _floats(rows: Sequence[Any], type: Type, kind: str) -> npt.NDArray[Any]:
+    """Returns numbers as floats of a type, to which floats of Python are rounded.
+
+    Refused are whole numbers that no float of the type is, an np.longdouble with more digits than a
+    float of Python has, and finite floats that would be rounded to infinity.
+    """
+    filled = [0.0 if row is None else row for row in rows]
+    for row_class in _classes(filled):
+        if _is_whole(row_class) or issubclass(row_class, np.longdouble):
+            for row in filled:
+                if row.__class__ is row_class and not _is_kept(row, kind):
+                    raise Unfit(f"{row!s} is no {type}")
+    with np.errstate(over="ignore"):
+        made: npt.NDArray[Any] = np.array(filled, kind)
+    for place in np.flatnonzero(np.isinf(made)).tolist():
+        if not np.isinf(filled[place]):
+            raise Unfit(f"{filled[place]!s} is no {type}")
+    return made
+
+
+def _is_kept(row: Any, kind: str) -> bool:
+    """Says whether a whole number is a float of a type, or an np.longdouble one of Python."""
+    if isinstance(row, np.longdouble):
+        return bool(float(row) == row or row != row)
+    return _is_float(row, kind)
 
 
 def _time(row: Any, type: Type) -> int:
@@ -298,9 +349,9 @@ def _time(row: Any, type: Type) -> int:
             micro = (plain.replace(tzinfo=None) - EPOCH) // _MICROSECOND
             return _in_unit(1000 * int(micro) + getattr(row, "nanosecond", 0), form[2], row, type)
     if form[:2] == "ts" and not form[4:] and isinstance(row, np.datetime64):
-        return _in_unit(int(row.astype("M8[ns]").astype(np.int64)), form[2], row, type)
+        return _in_unit(_nanoseconds(row, type), form[2], row, type)
     if form[:2] == "tD" and isinstance(row, np.timedelta64):
-        return _in_unit(int(row.astype("m8[ns]").astype(np.int64)), form[2], row, type)
+        return _in_unit(_nanoseconds(row, type), form[2], row, type)
     if form[:2] == "tD" and isinstance(row, datetime.timedelta):
         nano = 1000 * (row // _MICROSECOND) + getattr(row, "nanoseconds", 0) % 1000
         return _in_unit(nano, form[2], row, type)
@@ -308,6 +359,19 @@ def _time(row: Any, type: Type) -> int:
         second = 3600 * row.hour + 60 * row.minute + row.second
         return _in_unit(10 ** 9 * second + 1000 * row.microsecond, form[2], row, type)
     raise Unfit(f"{row!r} is no {type}")
+
+
+def _nanoseconds(row: Any, type: Type) -> int:
+    """Returns a time or a span of numpy in nanoseconds. Numpy itself would round or wrap around."""
+    unit, count = np.datetime_data(row.dtype)
+    if unit in ("Y", "M") and isinstance(row, np.datetime64):
+        row, unit, count = row.astype("M8[D]"), "D", 1
+    if unit not in _ATTOSECONDS:
+        raise Unfit(f"{row!r} is no {type}")
+    number, rest = divmod(int(row.astype(np.int64)) * count * _ATTOSECONDS[unit], 10 ** 9)
+    if rest:
+        raise Unfit(f"{row!r} is no {type}")
+    return number
 
 
 def _in_unit(nano: int, unit: str, row: object, type: Type) -> int:

@@ -8,8 +8,8 @@ from typing import TYPE_CHECKING, Any, Iterator, Optional, Tuple
 import numpy as np
 import numpy.typing as npt
 
-from ._library import (COLUMN, LIBRARY, OUT_OF_RANGE, NotServed, OutOfRange, TypesDiffer, declare,
-                       joined, not_served, refusal)
+from ._library import (COLUMN, LIBRARY, OUT_OF_RANGE, NotServed, OutOfRange, TypesDiffer, compare,
+                       declare, joined, not_served, refusal)
 from ._numbers import NUMBER, Number, _column, extremes
 from ._rows import Unfit, build
 from ._sources import Table, read, typed
@@ -347,6 +347,9 @@ def _with_room(state: Optional[Unique], column: Column, ends: Tuple[int, int]) -
 
 def _state_of(column: Column) -> Optional[Unique]:
     """Collects a column, or returns None where a state takes more room than its rows."""
+    if column.type.format == "tiD":  # of these no row is the least
+        compare(column, column, 0, "column: ")  # reads no array that is none
+        return None
     state: Optional[Unique] = None
     for chunk in column.chunks:
         for first in range(0, chunk.rows, _ROWS) or (0,):
@@ -385,7 +388,8 @@ def unique(column: object) -> Masked:
     Parameters
     ----------
     column : column of numbers
-        A column of a type that `compare` takes.
+        A column of a type that `compare` takes, or of intervals of days and milliseconds. The rows
+        of such intervals are returned as the integers of 64 bits that are stored.
 
     Returns
     -------
