@@ -33,15 +33,6 @@ struct out {
       (room)->values[5], (room)->len[5], (room)->values[6], (room)->len[6], (room)->values[7], \
       (room)->len[7], (room)->words, (size_t)words_for_bits((room)->rows), &(room)->nulls
 
-/* Opens a column and describes all its rows. Returns DUNKELVA_NOT_SERVED if the column does not
- * store integers of 8 to 64 bits. The caller must close the column, also after a failure. */
-static int32_t open_numbers(struct column *column, const struct ArrowSchema *type,
-                            const struct ArrowArray *array) {
-  TRY(dunkelva_open(column, type, array, 0));
-  TRY(dunkelva_describe(column, 0, array->length));
-  return dunkelva_is_numbers(column) ? DUNKELVA_OK : DUNKELVA_NOT_SERVED;
-}
-
 /* Returns the index of a kind among the types of integers: first the signed types by their size,
  * then the unsigned types. */
 static size_t place_of(uint32_t kind) {
@@ -127,8 +118,8 @@ int32_t dunkelva_arithmetic(enum dunkelva_operation operation, const struct Arro
   struct column right_column;
   struct room room = {.words = NULL};
   struct out out = {values, values_len, present, present_bytes};
-  int32_t left_status = open_numbers(&left_column, left_type, left);
-  int32_t right_status = open_numbers(&right_column, right_type, right);
+  int32_t left_status = dunkelva_open_numbers(&left_column, left_type, left);
+  int32_t right_status = dunkelva_open_numbers(&right_column, right_type, right);
   int32_t status = left_status != DUNKELVA_OK ? left_status : right_status;
   if (status == DUNKELVA_OK) {
     status = calculate((uint32_t)operation, &left_column, &right_column, &room, &out);
@@ -146,7 +137,7 @@ int32_t dunkelva_arithmetic_number(enum dunkelva_operation operation, enum dunke
   struct column column;
   struct room room = {.words = NULL};
   struct out out = {values, values_len, present, present_bytes};
-  int32_t status = open_numbers(&column, type, array);
+  int32_t status = dunkelva_open_numbers(&column, type, array);
   if (status == DUNKELVA_OK && (number == NULL || number->exists == 0)) {
     status = DUNKELVA_BAD_ARGUMENT;
   }
@@ -167,7 +158,7 @@ int32_t dunkelva_sign(enum dunkelva_sign_function sign, const struct ArrowSchema
   struct column column;
   struct room room = {.words = NULL};
   struct out out = {values, values_len, present, present_bytes};
-  int32_t status = open_numbers(&column, type, array);
+  int32_t status = dunkelva_open_numbers(&column, type, array);
   if (status == DUNKELVA_OK) {
     status = take_room(&room, column.parts, &out);
   }

@@ -6,15 +6,6 @@
 #include <stdlib.h>
 #include <string.h>
 
-/* Opens a column and describes all its rows. Returns DUNKELVA_NOT_SERVED if the column does not
- * store integers of 8 to 64 bits. The caller must close the column, also after a failure. */
-static int32_t open_numbers(struct column *column, const struct ArrowSchema *type,
-                            const struct ArrowArray *array) {
-  TRY(dunkelva_open(column, type, array, 0));
-  TRY(dunkelva_describe(column, 0, array->length));
-  return dunkelva_is_numbers(column) ? DUNKELVA_OK : DUNKELVA_NOT_SERVED;
-}
-
 /* The results of a call, a bit for each row. They are copied to the caller's memory after the call
  * has succeeded. */
 struct bits {
@@ -113,8 +104,8 @@ int32_t dunkelva_compare(enum dunkelva_test test, const struct ArrowSchema *left
   struct column left_column;
   struct column right_column;
   struct bits bits = {NULL, 0};
-  int32_t left_status = open_numbers(&left_column, left_type, left);
-  int32_t right_status = open_numbers(&right_column, right_type, right);
+  int32_t left_status = dunkelva_open_numbers(&left_column, left_type, left);
+  int32_t right_status = dunkelva_open_numbers(&right_column, right_type, right);
   int32_t status = left_status != DUNKELVA_OK ? left_status : right_status;
   if (status == DUNKELVA_OK) {
     status = compare((uint32_t)test, &left_column, &right_column, &bits, out, out_bytes);
@@ -127,7 +118,7 @@ int32_t dunkelva_compare(enum dunkelva_test test, const struct ArrowSchema *left
 int32_t dunkelva_sum(const struct ArrowSchema *type, const struct ArrowArray *array,
                      struct dunkelva_number *sum) {
   struct column column;
-  int32_t status = open_numbers(&column, type, array);
+  int32_t status = dunkelva_open_numbers(&column, type, array);
   if (status == DUNKELVA_OK) {
     status = sum == NULL ? DUNKELVA_BAD_ARGUMENT : dunkelva_part_sum(column.parts, sum);
   }
@@ -138,7 +129,7 @@ int32_t dunkelva_sum(const struct ArrowSchema *type, const struct ArrowArray *ar
 int32_t dunkelva_min_max(const struct ArrowSchema *type, const struct ArrowArray *array,
                          struct dunkelva_number *least, struct dunkelva_number *greatest) {
   struct column column;
-  int32_t status = open_numbers(&column, type, array);
+  int32_t status = dunkelva_open_numbers(&column, type, array);
   if (status == DUNKELVA_OK) {
     status = least == NULL || greatest == NULL
                  ? DUNKELVA_BAD_ARGUMENT
@@ -166,7 +157,7 @@ int32_t dunkelva_compare_number(enum dunkelva_test test, const struct ArrowSchem
                                 size_t out_bytes) {
   struct column column;
   struct bits bits = {NULL, 0};
-  int32_t status = open_numbers(&column, type, array);
+  int32_t status = dunkelva_open_numbers(&column, type, array);
   if (status == DUNKELVA_OK) {
     status = compare_number((uint32_t)test, &column, number, &bits, out, out_bytes);
   }
@@ -177,7 +168,7 @@ int32_t dunkelva_compare_number(enum dunkelva_test test, const struct ArrowSchem
 int32_t dunkelva_reduce_bits(enum dunkelva_join join, const struct ArrowSchema *type,
                              const struct ArrowArray *array, struct dunkelva_number *result) {
   struct column column;
-  int32_t status = open_numbers(&column, type, array);
+  int32_t status = dunkelva_open_numbers(&column, type, array);
   if (status == DUNKELVA_OK) {
     status = result == NULL ? DUNKELVA_BAD_ARGUMENT
                             : dunkelva_part_reduce_bits((uint32_t)join, column.parts, result);
@@ -190,7 +181,7 @@ int32_t dunkelva_count_bits(enum dunkelva_bits bits, const struct ArrowSchema *t
                             const struct ArrowArray *array, uint32_t *counts, size_t counts_len) {
   struct column column;
   uint32_t none[1] = {0};
-  int32_t status = open_numbers(&column, type, array);
+  int32_t status = dunkelva_open_numbers(&column, type, array);
   if (status == DUNKELVA_OK && counts == NULL && array->length > 0) {
     status = DUNKELVA_BAD_ARGUMENT;
   } else if (status == DUNKELVA_OK && counts_len < (size_t)array->length) {

@@ -319,9 +319,17 @@ int32_t dunkelva_describe(struct column *column, int64_t first, int64_t rows) {
   return describe(&walk, column->type, column->array, first, rows);
 }
 
-bool dunkelva_is_numbers(const struct column *column) {
+bool dunkelva_is_integers(const struct column *column) {
   uint32_t kind = column->parts->kind;
   return (kind >= KIND_INT8 && kind <= KIND_INT64) || (kind >= KIND_UINT8 && kind <= KIND_UINT64);
+}
+
+int32_t dunkelva_open_numbers(struct column *column, const struct ArrowSchema *type,
+                              const struct ArrowArray *array) {
+  TRY(dunkelva_open(column, type, array, 0));
+  TRY(dunkelva_describe(column, 0, array->length));
+  bool is_number = dunkelva_is_integers(column) && strcmp(type->format, "tiD") != 0;
+  return is_number ? DUNKELVA_OK : DUNKELVA_NOT_SERVED;
 }
 
 int64_t dunkelva_window(const struct column *column) {

@@ -234,9 +234,9 @@ int32_t dunkelva_is_null(const struct ArrowSchema *type, const struct ArrowArray
 
 /* The calls below take columns of numbers: signed and unsigned integers of 8 to 64 bits, and
  * columns that Arrow stores as such integers, which are dates, times, durations, timestamps,
- * intervals of months or of days and milliseconds, and decimals of 32 and 64 bits. The calls read
- * the stored integers: of the decimal 1.50 the integer 150. Other columns, also floats,
- * dictionaries, and decimals of 128 and 256 bits, are DUNKELVA_NOT_SERVED. */
+ * intervals of months, and decimals of 32 and 64 bits. The calls read the stored integers: of the
+ * decimal 1.50 the integer 150. Other columns, also floats, dictionaries, intervals of days and
+ * milliseconds, and decimals of 128 and 256 bits, are DUNKELVA_NOT_SERVED. */
 
 /* Comparisons of two rows. */
 enum dunkelva_test {
@@ -479,6 +479,9 @@ int32_t dunkelva_unique_init(struct dunkelva_unique *state, const struct dunkelv
 
 /* Adds all rows of a column of numbers to `state`. After a status other than DUNKELVA_OK the state
  * is unchanged: no row was added.
+ *
+ * This call also takes intervals of days and milliseconds, each as one integer of 64 bits: the
+ * lower 32 bits are the days, and the upper 32 bits the milliseconds.
  *
  * Returns a status of columns, or
  * - DUNKELVA_OUT_OF_RANGE if a row that is not null is outside of the range of the state,

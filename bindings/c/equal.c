@@ -30,8 +30,8 @@ static int32_t describe_window(struct pair *pair, int64_t done, int64_t count) {
 /* Returns whether both columns are lent to the kernel. It copies numbers only if comparisons are
  * counted, and all other columns always. */
 static bool are_lent(const struct pair *pair) {
-  return pair->comparisons == NULL && dunkelva_is_numbers(&pair->left) &&
-         dunkelva_is_numbers(&pair->right);
+  return pair->comparisons == NULL && dunkelva_is_integers(&pair->left) &&
+         dunkelva_is_integers(&pair->right);
 }
 
 /* Compares the `count` described rows, and writes their bits to `out`. */

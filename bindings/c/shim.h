@@ -21,9 +21,10 @@
  * its rows. So the index of a byte or a bit fits into 64 bits. */
 #define MOST_ROWS (INT64_MAX / 64)
 
-/* The rows of a window. The kernel copies a window, and the copy of few rows stays in the cache of
- * a processor. For a column with dictionaries, all entries are copied for each window, and numbers
- * that are lent to the kernel are not copied at all. So these windows are longer. */
+/* The rows of a window. The kernel copies a window, unless it is one of strings with offsets alone,
+ * and the copy of few rows stays in the cache of a processor. For a column with dictionaries, all
+ * entries are copied for each window, and numbers that are lent to the kernel are not copied at
+ * all. So these windows are longer. */
 #ifndef WINDOW_ROWS
 #define WINDOW_ROWS 8192
 #define DICTIONARY_ROWS 16384
@@ -113,8 +114,16 @@ void dunkelva_close(struct column *column);
 int32_t dunkelva_describe(struct column *column, int64_t first, int64_t rows);
 
 /* Returns whether a column stores integers of 8 to 64 bits, and is no dictionary. Floats that are
- * compared by their bits count as integers. The column must be described. */
-bool dunkelva_is_numbers(const struct column *column);
+ * compared by their bits count as integers. An interval of days and milliseconds counts as one
+ * integer of 64 bits. The column must be described. */
+bool dunkelva_is_integers(const struct column *column);
+
+/* Opens a column of numbers and describes all its rows. Returns DUNKELVA_NOT_SERVED if the column
+ * does not store integers of 8 to 64 bits, or if it has intervals of days and milliseconds ("tiD"):
+ * the 64 bits of such an interval are two numbers. The caller must close the column, also after a
+ * failure. */
+int32_t dunkelva_open_numbers(struct column *column, const struct ArrowSchema *type,
+                              const struct ArrowArray *array);
 
 /* Returns how many rows of a column make a window. The number is a multiple of 64. */
 int64_t dunkelva_window(const struct column *column);

@@ -58,18 +58,19 @@ int32_t dunkelva_unique_init(struct dunkelva_unique *state, const struct dunkelv
 }
 
 /* Opens a column and describes all its rows. Returns DUNKELVA_NOT_SERVED if the column does not
- * store integers of 8 to 64 bits. The caller must close the column, also after a failure. */
-static int32_t open_numbers(struct column *column, const struct ArrowSchema *type,
-                            const struct ArrowArray *array) {
+ * store integers of 8 to 64 bits. Intervals of days and milliseconds are taken: rows with the same
+ * bits are the same. The caller must close the column, also after a failure. */
+static int32_t open_integers(struct column *column, const struct ArrowSchema *type,
+                             const struct ArrowArray *array) {
   TRY(dunkelva_open(column, type, array, 0));
   TRY(dunkelva_describe(column, 0, array->length));
-  return dunkelva_is_numbers(column) ? DUNKELVA_OK : DUNKELVA_NOT_SERVED;
+  return dunkelva_is_integers(column) ? DUNKELVA_OK : DUNKELVA_NOT_SERVED;
 }
 
 int32_t dunkelva_unique_append(struct dunkelva_unique *state, const struct ArrowSchema *type,
                                const struct ArrowArray *array) {
   struct column column;
-  int32_t status = open_numbers(&column, type, array);
+  int32_t status = open_integers(&column, type, array);
   if (status == DUNKELVA_OK) {
     status = !is_state(state) ? DUNKELVA_BAD_ARGUMENT
                               : dunkelva_state_append(column.parts, &state->least, &state->greatest,

@@ -68,7 +68,6 @@ int32_t __wrap_dunkelva_parts_are_null(const struct part *parts, size_t len, uin
   return status;
 }
 
-
 int32_t __wrap_dunkelva_parts_equal_lent(const struct part *left, const struct part *right,
                                          uint64_t *out, size_t out_len) {
   model_read_all(left, 1);
@@ -437,17 +436,21 @@ static void try_flat(struct side left, struct side right) {
   memset(bits, 0xA5, ROOM);
   bool done = dunkelva_is_null(left.type, left.array, bits, ROOM, &count) == DUNKELVA_OK;
   require(done || (count == 7 && bits[0] == 0xA5), "nothing is written about nulls");
+  bool is_pair = strcmp(left.type->format, "tiD") == 0;
   done = dunkelva_sum(left.type, left.array, &number) == DUNKELVA_OK;
   require(done || number.low == 7, "no sum is written");
+  require(!done || !is_pair, "no sum of days and milliseconds");
   struct dunkelva_number other = {7, 0, 1};
   number = other;
   done = dunkelva_min_max(left.type, left.array, &number, &other) == DUNKELVA_OK;
   require(done || (number.low == 7 && other.low == 7), "no extremes are written");
+  require(!done || !is_pair, "no extremes of days and milliseconds");
   other.exists = 1;
   uint32_t counts[1] = {7};
   done = dunkelva_count_bits((enum dunkelva_bits)below(7), left.type, left.array, counts, 1) ==
          DUNKELVA_OK;
   require(done || counts[0] == 7, "no counts are written");
+  require(!done || !is_pair, "no bits of days and milliseconds");
   number.low = 7;
   done = dunkelva_reduce_bits((enum dunkelva_join)below(4), left.type, left.array, &number) ==
          DUNKELVA_OK;
@@ -460,6 +463,7 @@ static void try_flat(struct side left, struct side right) {
   done = dunkelva_compare((enum dunkelva_test)below(7), left.type, left.array, right.type,
                           right.array, bits, ROOM) == DUNKELVA_OK;
   require(done || bits[0] == 0xA5, "no comparison is written");
+  require(!done || !is_pair, "no order of days and milliseconds");
 }
 
 /* Tries arithmetic on columns of numbers. */
@@ -475,6 +479,8 @@ static void try_arithmetic(struct side left, struct side right) {
                           right.array, values, 8 * ROOM, bits, ROOM, &nulls);
   require(status == 0 || (values[0] == 0xA5A5A5A5A5A5A5A5U && bits[0] == 0xA5 && nulls == 77),
           "no results are written");
+  require(status != 0 || strcmp(left.type->format, "tiD") != 0,
+          "no arithmetic of days and milliseconds");
   status = dunkelva_arithmetic_number((enum dunkelva_operation)below(7),
                                       (enum dunkelva_side)below(3), &number, left.type, left.array,
                                       values, 8 * ROOM, bits, ROOM, NULL);

@@ -13,7 +13,10 @@ import random
 import sys
 
 import arrow
-from flat import FORMATS, limits
+from flat import FORMATS as NUMBERS, limits
+
+# A state takes the two numbers of "tiD" as one.
+FORMATS = NUMBERS + ["tiD"]
 
 # What lies past the bits of a state, and has to stay.
 BEHIND = 0xA5A5A5A5A5A5A5A5

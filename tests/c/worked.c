@@ -603,6 +603,64 @@ static void try_comparisons(void) {
   count(out == 0x55, "no comparison is written");
 }
 
+/* Intervals of days and milliseconds, which are two numbers each: 1 day, 2 milliseconds, a null. */
+static void try_intervals(void) {
+  const int32_t days[] = {1, 0, 0, 2, 5, 5};
+  const int32_t others[] = {1, 0, 0, 3, 7, 7};
+  struct made *left = make("tiD", 3, 2, BITS(0x3), days, NULL);
+  struct made *right = make("tiD", 3, 2, BITS(0x3), others, NULL);
+  const struct ArrowSchema *type = &left->type;
+  const struct ArrowArray *array = &left->array;
+  struct dunkelva_number number = {7, 0, 1};
+  struct dunkelva_number other = {7, 0, 1};
+  uint64_t values[3] = {7, 7, 7};
+  uint32_t counts[3] = {7, 7, 7};
+  uint8_t out = 0x55;
+  uint64_t nulls = 7;
+  equal("days and milliseconds", left, right, "101");
+  for (int test = 0; test < 6; test++) {
+    count(dunkelva_compare((enum dunkelva_test)test, type, array, &right->type, &right->array, &out,
+                           1) == DUNKELVA_NOT_SERVED &&
+              dunkelva_compare_number((enum dunkelva_test)test, type, array, &number, &out, 1) ==
+                  DUNKELVA_NOT_SERVED,
+          "no comparison of days and milliseconds");
+  }
+  count(dunkelva_sum(type, array, &number) == DUNKELVA_NOT_SERVED &&
+            dunkelva_min_max(type, array, &number, &other) == DUNKELVA_NOT_SERVED &&
+            dunkelva_reduce_bits(DUNKELVA_OR, type, array, &number) == DUNKELVA_NOT_SERVED,
+        "no sum, no extremes of days and milliseconds");
+  count(dunkelva_count_bits(DUNKELVA_ONES, type, array, counts, 3) == DUNKELVA_NOT_SERVED,
+        "no counts of bits of days and milliseconds");
+  count(dunkelva_arithmetic(DUNKELVA_ADD, type, array, &right->type, &right->array, values, 3, &out,
+                            1, &nulls) == DUNKELVA_NOT_SERVED &&
+            dunkelva_arithmetic_number(DUNKELVA_ADD, DUNKELVA_LEFT, &number, type, array, values, 3,
+                                       &out, 1, &nulls) == DUNKELVA_NOT_SERVED &&
+            dunkelva_sign(DUNKELVA_NEGATE, type, array, values, 3, &out, 1, &nulls) ==
+                DUNKELVA_NOT_SERVED,
+        "no arithmetic of days and milliseconds");
+  count(number.low == 7 && other.low == 7 && values[0] == 7 && counts[0] == 7 && out == 0x55 &&
+            nulls == 7,
+        "nothing is written about days and milliseconds");
+  count(dunkelva_is_null(type, array, &out, 1, &nulls) == DUNKELVA_OK && out == 0x4 && nulls == 1,
+        "nulls of days and milliseconds");
+  struct dunkelva_number least = {0, 0, 1};
+  struct dunkelva_number greatest = {63, 0, 1};
+  struct dunkelva_unique state;
+  uint64_t bits[1] = {7};
+  struct made *first = make("tiD", 1, 2, NULL, days, NULL);
+  count(dunkelva_unique_init(&state, &least, &greatest, bits, 1) == DUNKELVA_OK &&
+            dunkelva_unique_append(&state, &first->type, &first->array) == DUNKELVA_OK &&
+            bits[0] == 2 && dunkelva_unique_append(&state, type, array) == DUNKELVA_OUT_OF_RANGE &&
+            bits[0] == 2,
+        "distinct days and milliseconds");
+  struct made *months = make("tiM", 3, 2, NULL, days, NULL);
+  count(dunkelva_sum(&months->type, &months->array, &number) == DUNKELVA_OK && number.low == 1 &&
+            dunkelva_compare(DUNKELVA_LESS, &months->type, &months->array, &months->type,
+                             &months->array, &out, 1) == DUNKELVA_OK &&
+            out == 0,
+        "months are numbers");
+}
+
 static void try_nulls(void) {
   const int32_t ends[] = {0, 1, 2, 3, 4};
   struct made *lists = put(make("+l", 4, 2, BITS(0xB), ends, NULL), "", numbers(4, NULL, ends));
@@ -852,6 +910,7 @@ int main(void) {
   try_states();
   try_sums();
   try_comparisons();
+  try_intervals();
   try_nulls();
   try_numbers_of_other_formats();
   try_floats();

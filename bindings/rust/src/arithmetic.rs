@@ -4,7 +4,7 @@
 use crate::structs::Typed;
 use crate::sys::{self, Wide};
 use crate::types::Integer;
-use crate::{Error, Numbers};
+use crate::{Array, Error, Numbers};
 use std::os::raw::c_uint;
 
 /// An operation on two numbers. Results wrap around in the number type: in `i8` 100 + 100 is -56.
@@ -62,6 +62,7 @@ impl<T: Integer> From<T> for Operand<'_, T> {
 ///
 /// - [`Error::LengthMismatch`], if both sides are columns, and their lengths differ.
 /// - [`Error::TypeMismatch`], if both sides are columns, and their formats differ.
+/// - [`Error::Unsupported`], if the format is [`INTERVAL_DAY_TIME`](crate::format).
 /// - [`Error::NoMemory`], if an allocation fails.
 ///
 /// # Examples
@@ -86,14 +87,14 @@ pub fn arithmetic<'l, 'r, T: Integer>(
     match (left.into(), right.into()) {
         (Operand::Rows(left), Operand::Rows(right)) => of_rows(left, operation, right),
         (Operand::Rows(rows), Operand::Number(number)) => {
-            with_number(rows.typed(), rows.len(), (operation, Side::Right), number)
+            with_number(rows.typed(), rows, (operation, Side::Right), number)
         }
         (Operand::Number(number), Operand::Rows(rows)) => {
-            with_number(rows.typed(), rows.len(), (operation, Side::Left), number)
+            with_number(rows.typed(), rows, (operation, Side::Left), number)
         }
         (Operand::Number(left), Operand::Number(right)) => {
             let one = Numbers::from(vec![left]);
-            with_number(one.typed(), 1, (operation, Side::Right), right)
+            with_number(one.typed(), &one, (operation, Side::Right), right)
         }
     }
 }
@@ -108,7 +109,7 @@ fn of_rows<T: Integer>(
     Numbers::written(left.len(), |values, present| {
         match sys::arithmetic(operation as c_uint, &one, &other, values, present) {
             2 => Err(Error::types_differ(left, right)),
-            status => Error::check(status),
+            status => Error::check_array(status, left),
         }
     })
 }
@@ -121,24 +122,25 @@ enum Side {
 
 fn with_number<T: Integer>(
     typed: Typed<'_, T>,
-    rows: usize,
+    array: &Array<'_>,
     (operation, side): (Operation, Side),
     number: T,
 ) -> Result<Numbers<'static, T>, Error> {
     let number = Wide::of(number.into());
     let which = (operation as c_uint, side as c_uint);
-    Numbers::written(rows, |values, present| {
+    Numbers::written(array.len(), |values, present| {
         let status = sys::arithmetic_number(which, &number, &typed, values, present);
-        Error::check(status)
+        Error::check_array(status, array)
     })
 }
 
-/// Copies numbers from any address: adds 0 to them.
+/// Copies numbers from any address: adds 0 to them, as plain integers.
 pub(crate) fn copied<T: Integer>(
     typed: Typed<'_, T>,
-    rows: usize,
+    array: &Array<'_>,
 ) -> Result<Numbers<'static, T>, Error> {
-    with_number(typed, rows, (Operation::Add, Side::Right), T::default())
+    let plain = typed.into_plain();
+    with_number(plain, array, (Operation::Add, Side::Right), T::default())
 }
 
 /// Negates each row. Results wrap around: in `i8` the negative of -128 is -128. Null rows stay
@@ -146,6 +148,7 @@ pub(crate) fn copied<T: Integer>(
 ///
 /// # Errors
 ///
+/// [`Error::Unsupported`], if the format is [`INTERVAL_DAY_TIME`](crate::format);
 /// [`Error::NoMemory`], if an allocation fails.
 ///
 /// # Examples
@@ -166,6 +169,7 @@ pub fn wrapping_neg<T: Integer>(rows: &Numbers<'_, T>) -> Result<Numbers<'static
 ///
 /// # Errors
 ///
+/// [`Error::Unsupported`], if the format is [`INTERVAL_DAY_TIME`](crate::format);
 /// [`Error::NoMemory`], if an allocation fails.
 ///
 /// # Examples
@@ -184,7 +188,7 @@ pub fn wrapping_abs<T: Integer>(rows: &Numbers<'_, T>) -> Result<Numbers<'static
 fn signed<T: Integer>(sign: c_uint, rows: &Numbers<'_, T>) -> Result<Numbers<'static, T>, Error> {
     let typed = rows.typed();
     Numbers::written(rows.len(), |values, present| {
-        Error::check(sys::sign(sign, &typed, values, present))
+        Error::check_array(sys::sign(sign, &typed, values, present), rows)
     })
 }
 

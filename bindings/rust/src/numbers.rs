@@ -136,6 +136,7 @@ impl<T: Integer> Numbers<'_, T> {
     ///
     /// # Errors
     ///
+    /// [`Error::Unsupported`], if the format is [`INTERVAL_DAY_TIME`](crate::format);
     /// [`Error::NoMemory`], if an allocation fails.
     ///
     /// # Examples
@@ -158,6 +159,7 @@ impl<T: Integer> Numbers<'_, T> {
     ///
     /// # Errors
     ///
+    /// [`Error::Unsupported`], if the format is [`INTERVAL_DAY_TIME`](crate::format);
     /// [`Error::NoMemory`], if an allocation fails.
     pub fn max(&self) -> Result<Option<T>, Error> {
         self.of_type(calls::max(self)?)
@@ -168,6 +170,7 @@ impl<T: Integer> Numbers<'_, T> {
     ///
     /// # Errors
     ///
+    /// [`Error::Unsupported`], if the format is [`INTERVAL_DAY_TIME`](crate::format);
     /// [`Error::NoMemory`], if an allocation fails.
     pub fn min_max(&self) -> Result<Option<(T, T)>, Error> {
         let both = calls::min_max(self)?;
@@ -180,6 +183,7 @@ impl<T: Integer> Numbers<'_, T> {
     ///
     /// # Errors
     ///
+    /// [`Error::Unsupported`], if the format is [`INTERVAL_DAY_TIME`](crate::format);
     /// [`Error::NoMemory`], if an allocation fails.
     ///
     /// # Examples
@@ -199,6 +203,7 @@ impl<T: Integer> Numbers<'_, T> {
     ///
     /// # Errors
     ///
+    /// [`Error::Unsupported`], if the format is [`INTERVAL_DAY_TIME`](crate::format);
     /// [`Error::NoMemory`], if an allocation fails.
     ///
     /// # Examples
@@ -239,7 +244,7 @@ impl<'a, T: Integer> Numbers<'a, T> {
             Some((values, Some(bytes))) => Array::numbers(values)
                 .with_validity(Bitmap::new(bytes, 0, values.len())?)?
                 .slice(first, rows)?,
-            None => copied(Typed::<T>::new(Structs::of(array)), rows)?.into_array(),
+            None => copied(Typed::<T>::new(Structs::of(array)), array)?.into_array(),
         };
         let numbers = Numbers::kept_as(numbers);
         if array.format().as_bytes() == T::FORMAT.strip_suffix(b"\0").unwrap_or_default() {

@@ -2,6 +2,7 @@
 #![forbid(unsafe_code)]
 
 use crate::lent::{Content, Field, Lent};
+use crate::types::Number;
 use crate::Array;
 use std::marker::PhantomData;
 use std::os::raw::{c_char, c_void};
@@ -154,6 +155,14 @@ impl<'x, T> Typed<'x, T> {
             structs,
             _rows: PhantomData,
         }
+    }
+}
+
+impl<T: Number> Typed<'_, T> {
+    /// Replaces the format by the plain one of the type `T`.
+    pub(crate) fn into_plain(mut self) -> Self {
+        self.structs.schema.format = T::FORMAT.as_ptr().cast();
+        self
     }
 }
 

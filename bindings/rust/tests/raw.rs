@@ -209,6 +209,11 @@ fn numbers_at_any_address_and_without_a_validity() -> Result<(), Error> {
     exported._buffers[1] = start.cast::<u8>().wrapping_add(1).cast();
     let copied: Numbers<'_, i32> = exported.array()?.to_numbers()?;
     assert!(copied.iter().eq([Some(2), None, Some(4)]));
+    let mut exported = Exported::new(b"tiD\0", &VALUES, &present, 0, 2);
+    exported._buffers[1] = start.cast::<u8>().wrapping_add(1).cast();
+    let intervals: Numbers<'_, i64> = exported.array()?.to_numbers()?;
+    assert_eq!(intervals.format(), "tiD");
+    assert_eq!(intervals.values(), [2 << 32 | 1, 4 << 32 | 3]);
     let mut exported = Exported::new(b"i\0", &VALUES, &present, 1, 3);
     exported._buffers[0] = ptr::null();
     let plain: Numbers<'_, i32> = exported.array()?.to_numbers()?;

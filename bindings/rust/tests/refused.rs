@@ -3,8 +3,9 @@
 mod common;
 
 use dunkelva::{
-    compare, compare_number, equal, equal_counted, is_null, min_max, wrapping_add, wrapping_sum,
-    Array, Bitmap, Comparison, EqualOptions, Error, Mask, Numbers,
+    compare, compare_number, count_ones, equal, equal_counted, format, is_null, min_max,
+    wrapping_add, wrapping_neg, wrapping_sum, Array, BitOperation, Bitmap, Comparison,
+    EqualOptions, Error, Mask, Numbers, Unique,
 };
 
 /// Returns the error of a call that does not support a type.
@@ -318,6 +319,28 @@ fn types_that_a_call_does_not_take() {
     let number = Array::numbers(&[1]);
     assert_eq!(less(&number, &bytes), unsupported("z"));
     assert_eq!(less(&bytes, &number), unsupported("z"));
+}
+
+#[test]
+fn intervals_of_days_and_milliseconds_are_no_numbers() -> Result<(), Error> {
+    let (day, second) = (1_i64, 1000_i64 << 32);
+    let rows = Numbers::from(vec![day, second, day]).with_format(format::INTERVAL_DAY_TIME)?;
+    assert_eq!(rows.min_max(), unsupported("tiD"));
+    assert_eq!(rows.wrapping_sum(), unsupported("tiD"));
+    assert_eq!(rows.reduce_bits(BitOperation::Or), unsupported("tiD"));
+    assert_eq!(wrapping_add(&rows, &rows), unsupported("tiD"));
+    assert_eq!(wrapping_add(&rows, 1), unsupported("tiD"));
+    assert_eq!(wrapping_neg(&rows), unsupported("tiD"));
+    assert_eq!(count_ones(&rows), unsupported("tiD"));
+    let less = compare(&rows, Comparison::Less, &rows);
+    assert_eq!(less, unsupported("tiD"));
+    assert!(equal(&rows, &rows)?.all());
+    assert!(rows.to_numbers::<i64>()?.iter().eq(rows.iter()));
+    let mut seen = Unique::new(day..=day)?;
+    let last = rows.slice(2, 1)?;
+    seen.append(&last)?;
+    assert_eq!(seen.values()?, [1]);
+    Ok(())
 }
 
 #[test]
