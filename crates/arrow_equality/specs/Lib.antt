@@ -1,3 +1,5 @@
 pub mod Compared
 pub mod Equal
 pub mod Nulls
+pub mod PartStrings
+pub mod Strings

@@ -9,6 +9,7 @@ ghost use Rattle.arrow_equality.specs.Equal.{AreEqualIn, IsComparison, IsCountIn
 ghost use Rattle.arrow_equality.specs.Equal.{IsRefusedComparison, IsTrueRefusal};
 
 use crate::compared::{Compared, compare, write};
+use crate::strings::compare_in_place;
 use arrow_arrays::build::build;
 use arrow_parts::part::Part;
 use arrow_parts::refused::Refused;
@@ -32,9 +33,9 @@ fn compare_arrays(alloc: Global, left: &AnyArray, right: &AnyArray) -> Result<Co
     compare(alloc, left, right)
 }
 
-/// Builds two arrays from the parts `left` and `right`, and compares them row by row. Fails with `Parts` if the
-/// parts make no array, with `Types` if the two arrays differ in type or in length, and with
-/// `Memory` if an allocation fails.
+/// Builds two arrays from the parts `left` and `right`, and compares them row by row. Fails with
+/// `Parts` if the parts make no array, with `Types` if the two arrays differ in type or in length,
+/// and with `Memory` if an allocation fails.
 fn compare_parts(alloc: Global, left: &[Part<'_>], right: &[Part<'_>]) -> Result<Compared, Refused>
     ensures compared { IfOk result
         (IsComparison (rows_of_parts left.now) (rows_of_parts right.now)) }
@@ -44,6 +45,24 @@ fn compare_parts(alloc: Global, left: &[Part<'_>], right: &[Part<'_>]) -> Result
     let left = build(alloc, left)?;
     let right = build(alloc, right)?;
     compare_arrays(alloc, &left, &right)
+}
+
+/// Compares two lent arrays, row by row. If `compare_in_place` can compare them, nothing but the
+/// validities is copied. Otherwise builds both arrays first. Fails as `compare_parts` does.
+fn compare_lent(alloc: Global, left: &[Part<'_>], right: &[Part<'_>]) -> Result<Compared, Refused>
+    ensures compared { IfOk result
+        (IsComparison (rows_of_parts left.now) (rows_of_parts right.now)) }
+    ensures good { IfOk result (λ _. AreGoodParts left.now × AreGoodParts right.now) }
+    ensures refused { IfErr result (IsRefusedComparison left.now right.now) }
+{
+    if left.len() != 1 || right.len() != 1 {
+        return compare_parts(alloc, left, right);
+    }
+    let found = compare_in_place(alloc, &left[0], &right[0])?;
+    match found {
+        Some(compared) => Ok(compared),
+        None => compare_parts(alloc, left, right),
+    }
 }
 
 /// Compares two lent arrays, row by row. Sets bit `i` of `out` if the two rows `i` are equal as
@@ -68,6 +87,6 @@ pub fn equal_rows(
     ensures kept { OnErr result (out.new ≡ out.old) }
     ensures count_kept { OnErr result (comparisons.new ≡ comparisons.old) }
 {
-    let compared = compare_parts(alloc, left, right)?;
+    let compared = compare_lent(alloc, left, right)?;
     write(&compared, out, comparisons)
 }

@@ -4,3 +4,5 @@
 mod compared;
 pub mod equal;
 pub mod nulls;
+mod part_strings;
+mod strings;
