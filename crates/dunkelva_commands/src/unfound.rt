@@ -3,8 +3,8 @@
 //! If no document has a part at the first step of any path of `--only`, no difference is found,
 //! whatever the documents are: such a comparison is refused. A misspelt path of `--ignore` or of a
 //! tolerance has no effect. With `--no-key-is-null`, a misspelt path of `--key` makes this part of
-//! the key null in all documents. All paths at which no document has a part are reported on standard
-//! error after the comparison. To find paths, the files are read once more.
+//! the key null in all documents. All paths at which no document has a part are reported on
+//! standard error after the comparison. To find paths, the files are read once more.
 
 use clap::ArgMatches;
 use dunkelva_messages::error::{Error, Result};
