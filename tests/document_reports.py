@@ -849,6 +849,10 @@ def faults_said(pair):
 def wanted(pair):
     """Returns the status that a run over a pair has to end with, and its report, or what it may
     say."""
+    content = b"\n".join((pair.left_bytes, pair.right_bytes))
+    refused = refused_only(pair.options.get("only", ()), content)
+    if refused and pair.options["piped"] is None:
+        return 2, [refused.decode().removeprefix("dunkelva: ").rstrip("\n")]
     said, sides = faults_said(pair)
     if said:
         return 2, said
@@ -935,10 +939,6 @@ def refused_only(only, content):
 
 def is_right(ran, pair):
     """Returns whether a run over a pair did as it has to."""
-    content = b"\n".join((pair.left_bytes, pair.right_bytes))
-    refused = refused_only(pair.options.get("only", ()), content)
-    if refused and pair.options["piped"] is None:
-        return ran == (2, b"", refused)
     status, report = wanted(pair)
     if ran.status != status:
         return False
