@@ -274,8 +274,8 @@ impl Bench {
             "{name}: the two sides answer differently"
         );
         let other = kernel.beside.unwrap_or(kernel.plain);
-        // A kernel that stops early takes a thousandth of the time of its peer, so that each side has
-        // its own number of runs.
+        // A kernel that stops early may take a thousandth of its peer's time, so each side has its
+        // own number of runs.
         let (our_runs, other_runs) = (repeats_for(least, ours), repeats_for(least, other));
         let (mut our_best, mut other_best) = (Best::new(), Best::new());
         for _ in 0..times {
