@@ -24,8 +24,9 @@ use polars_arrays_flat::primitive::PrimitiveArray;
 use polars_arrays_numbers::native_type::NativeType;
 use std::alloc::Global;
 
-/// Returns the validity of a part as a bitmap, or `None` if the part has no validity bits. Fails
-/// with `Parts` if there are fewer bits than rows, and with `Memory` if an allocation fails.
+/// Copies the validity bits of a part into a bitmap with a bit for each row. Returns `None` if the
+/// part has no validity bits: no row is then null. Fails with `Parts` if there are fewer bits than
+/// rows, and with `Memory` if an allocation fails.
 pub fn present(alloc: Global, part: &Part<'_>) -> Result<Option<Bitmap>, Refused>
     ensures mask { IfOk result (λ bits. bits ≡ present_in part.now) }
     ensures held { IfOk result (λ _. HoldRows part.now) }
@@ -42,9 +43,9 @@ fn copied<T: Copy>(alloc: Global, elements: &[T]) -> Result<Buffer<T>, Refused>
     Ok(Buffer::from_vec(Vec::from_slice(alloc, elements)?))
 }
 
-/// Returns the array of the numbers `values` under the validity of a part. Fails with `Parts` if
-/// there isn't one number for each row, or if there are fewer validity bits than rows, and with
-/// `Memory` if an allocation fails.
+/// Copies `values`, the numbers of a part, and the validity of the part into an array. Fails with
+/// `Parts` if there isn't one number for each row, or if there are fewer validity bits than rows,
+/// and with `Memory` if an allocation fails.
 pub fn numbers<T: NativeType>(
     alloc: Global,
     part: &Part<'_>,
@@ -62,8 +63,8 @@ pub fn numbers<T: NativeType>(
     Ok(array)
 }
 
-/// Returns the Boolean array of a part. Fails with `Parts` if there are fewer bits than rows, and
-/// with `Memory` if an allocation fails.
+/// Copies the truth values and the validity of a part into a Boolean array. Fails with `Parts` if
+/// there are fewer bits than rows, and with `Memory` if an allocation fails.
 pub fn truths(alloc: Global, part: &Part<'_>) -> Result<BooleanArray, Refused>
     ensures made { IfOk result (IsTruths part.now) }
     ensures refused { IfErr result (IsHonest (AreTruths part.now)) }
@@ -96,9 +97,9 @@ pub fn ends<O: LentOffset>(
     Ok(ends)
 }
 
-/// Returns the array of a part's byte strings, which have the offsets `offsets`. Fails with `Parts`
-/// if the offsets or the validity don't fit the rows, or an offset lies past the bytes, and with
-/// `Memory` if an allocation fails.
+/// Copies the byte strings of a part, whose offsets are `offsets`, and its validity into an array.
+/// Fails with `Parts` if `ends` does, if an offset is less than the one before it or lies past the
+/// bytes, or if there are fewer validity bits than rows, and with `Memory` if an allocation fails.
 pub fn strings<O: LentOffset>(
     alloc: Global,
     part: &Part<'_>,

@@ -182,8 +182,9 @@ fn repeat_in_place<T: NativeType + AsPrimitive<u64>, B: Beside<T>>(
     Ok(checksum)
 }
 
-// Runs an operation `repeats` times, each time on a clone of `array` with shared values, and
-// returns the checksum. If a run fails, returns its error.
+// Runs an operation `repeats` times and returns a checksum of the results. Each run gets a new
+// clone of `array`, which shares its values, so that no run can write its result into them. If a
+// run fails, returns its error.
 #[inline(always)]
 fn repeat_anew<T: NativeType + AsPrimitive<u64>, B: Beside<T>>(
     alloc: Global,

@@ -21,8 +21,8 @@ struct Columns<'a> {
     right: &'a [PrimitiveArray<i32>],
 }
 
-// Runs a kernel on two columns, and returns bit `i` of its result as a number. Returns 0 if the
-// columns cannot be compared.
+// Runs a kernel on two columns, and returns bit `i` of its result as `bit_of` does. Returns 0 if
+// the columns differ in type or in length, so that they cannot be compared.
 #[inline(always)]
 fn run_column(
     alloc: Global,

@@ -105,9 +105,9 @@ fn push_totals(out: &mut Vec<u8>, totals: &Totals) -> Result<(), AllocError>
     Ok(())
 }
 
-/// Appends `COLUMN COUNT` for a column if its count in `counts` is not 0, with a comma before it if
-/// `written` is not 0. `written` is the number of columns appended so far. Returns this number
-/// after the call.
+/// Appends `COLUMN COUNT` for the column with the index `column` in `names` and `counts`, or
+/// nothing if its count is 0. `written` is the number of columns that were appended before; if it
+/// is not 0, a comma comes first. Returns the number of columns appended up to now.
 fn push_if_counted(
     out: &mut Vec<u8>,
     names: &BinaryArray<i64>,

@@ -48,9 +48,8 @@ fn are_as_long<L: ByteRows, R: ByteRows>(
     true
 }
 
-/// Returns whether the `n` strings from `at` on in `left` are stored like the `n` strings from
-/// `from` on in `right`: with the same lengths and the same bytes. The strings are then equal.
-/// `as_long` says whether the lengths are the same.
+/// Returns whether the `n` strings from `at` on in `left` have the same lengths and the same bytes
+/// as the `n` strings from `from` on in `right`. `as_long` is whether the lengths are the same.
 fn are_alike<L: Offset, R: Offset>(
     left: &BinaryArray<L>,
     at: usize,
@@ -106,9 +105,9 @@ fn lengths_agree<L: Offset, R: Offset>(
     Ok(flags)
 }
 
-/// Appends to `places` the indices of the pairs in `start..end` whose two rows are not stored alike
-/// (`are_alike`). Pairs and rows are defined as for `lengths_agree`, and `as_long` is the result of
-/// that function.
+/// Appends to `places` the indices of the pairs in `start..end` whose two rows differ in a byte
+/// (`are_alike` is false). Pairs and rows are defined as for `lengths_agree`, and `as_long` is the
+/// result of that function.
 fn push_unlike<L: Offset, R: Offset>(
     places: &mut Vec<usize>,
     left: &BinaryArray<L>,
@@ -147,10 +146,10 @@ fn push_unlike<L: Offset, R: Offset>(
     Ok(())
 }
 
-/// Returns the indices of the pairs whose two rows are not stored alike, in ascending order. Two
-/// rows are stored alike, and are then equal, if their strings have the same lengths and the same
-/// bytes. Pair `p` is row `left_rows[p]` of `left` and row `right_rows[p]` of `right`. A row is
-/// `width` adjacent strings.
+/// Returns the indices of the pairs of rows that differ in a byte, in ascending order. A row is
+/// `width` adjacent strings. Pair `p` is row `left_rows[p]` of `left` and row `right_rows[p]` of
+/// `right`. Two rows are the same to the byte if each string has the same length and the same bytes
+/// as the string of the other row in the same column. The only error is a failed allocation.
 pub(crate) fn unlike_pairs<L: Offset, R: Offset>(
     alloc: Global,
     left: &BinaryArray<L>,

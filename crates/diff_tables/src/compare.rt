@@ -93,7 +93,7 @@ fn changed_places(
         matching.now.right_rows.items) (length matching.now.left_rows.items) changed.items)
         IsMemory }
 {
-    // Most pairs are stored alike, and are then equal. The kernel compares only the other pairs.
+    // Most pairs are the same to the byte. The kernel compares only the other pairs.
     let places = left.unlike_pairs(alloc, &matching.left_rows, right, &matching.right_rows)?;
     let left_rows = numbers_at(alloc, &matching.left_rows, &places)?;
     let right_rows = numbers_at(alloc, &matching.right_rows, &places)?;

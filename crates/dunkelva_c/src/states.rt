@@ -265,9 +265,10 @@ fn count_state(
     Ok(())
 }
 
-/// Writes the number of distinct values that a state has seen into `values`, and the number of
-/// distinct rows into `rows`. The rows are one more than the values if a null was seen. Returns 0,
-/// or the status of a `StateFault`; nothing is then written.
+/// Counts what a state has seen: writes the number of distinct values into `values`, and the number
+/// of distinct rows into `rows`. If the state has seen a null, it counts as one more row. The state
+/// consists of its range `least..=greatest`, its bits `words` and its flag for nulls. Returns 0, or
+/// the status of a `StateFault`: nothing is then written.
 #[unsafe(no_mangle)]
 pub extern "C" fn dunkelva_state_count(
     least: &Number,

@@ -120,7 +120,8 @@ fn columns(alloc: Global, parts: &Parts) -> Result<Vec<AnyArray>, Fault>
     Ok(columns)
 }
 
-/// Creates the struct array of the orders. Fails with `Parts` if the parts do not fit together.
+/// Creates the struct array of the orders. Fails with `Fault::Parts` if a constructor (`try_new`)
+/// refuses the parts, and with `Fault::Memory` if an allocation fails.
 fn orders(alloc: Global, parts: &Parts) -> Result<Box<AnyArray>, Fault>
     ensures { IfOk result (λ array. IsGood array.value) }
 {

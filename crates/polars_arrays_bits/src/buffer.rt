@@ -120,7 +120,8 @@ impl<T: Copy> Buffer<T> {
         self.store.window_mut(self.start, self.len)
     }
 
-    // Returns whether the buffer owns its memory. Takes `&mut self`, unlike `is_owned`.
+    // Returns whether the buffer owns its memory, as `is_owned` does. It takes `&mut self`, so that
+    // `get_mut` can call it before it borrows the elements.
     fn owns(&mut self) -> bool
         ensures unchanged { self.new ≡ self.old }
         ensures owned { result ≡ self.old.owned }

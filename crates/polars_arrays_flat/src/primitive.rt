@@ -70,7 +70,8 @@ impl<T: Copy> PrimitiveArray<T> {
         self.values.as_mut_slice()
     }
 
-    // Returns whether the array owns its values. Takes `&mut self`, unlike `is_owned`.
+    // Returns whether the array owns its values, as `is_owned` does. It takes `&mut self`, so that
+    // `get_mut_values` can call it before it borrows the values.
     fn owns(&mut self) -> bool
         ensures unchanged { self.new ≡ self.old }
         ensures owned { result ≡ self.old.owned }

@@ -32,9 +32,10 @@ pub trait RawValues {
     fn into_bitmap(self, alloc: Global) -> Result<Bitmap, ComputeError>
         ensures { MatchResult result (λ bits. bits ≡ values self) IsMemory };
 
-    /// Returns a bit for each truth value `q` and the bits `l` of `left` and `r` of `right` at its
-    /// index: `(q & l & r) | !(l | r)`. This is missing equality if `q` is 1 for equal rows, and
-    /// `l` and `r` are 1 for present rows. The error is `Memory`.
+    /// Combines each truth value with the validity bits of the two rows that were compared. For the
+    /// truth value `q`, the bit `l` of `left` and the bit `r` of `right` at the same index, the bit
+    /// of the result is `(q & l & r) | !(l | r)`. If `q` says that the two values are equal, this
+    /// is missing equality of the rows. The error is `Memory`.
     fn merge_eq(
         self,
         alloc: Global,
@@ -46,9 +47,10 @@ pub trait RawValues {
         ensures { MatchResult result
             (λ bits. bits ≡ zip3 merged_eq (values self) left.now right.now) IsMemory };
 
-    /// Returns a bit for each truth value `q` and the bits `l` of `left` and `r` of `right` at its
-    /// index: `(q & l & r) | (l ^ r)`. This is missing inequality if `q` is 1 for unequal rows, and
-    /// `l` and `r` are 1 for present rows. The error is `Memory`.
+    /// Combines each truth value with the validity bits of the two rows that were compared. For the
+    /// truth value `q`, the bit `l` of `left` and the bit `r` of `right` at the same index, the bit
+    /// of the result is `(q & l & r) | (l ^ r)`. If `q` says that the two values differ, this is
+    /// missing inequality of the rows. The error is `Memory`.
     fn merge_ne(
         self,
         alloc: Global,

@@ -36,9 +36,9 @@ macro_rules! join_leaves {
     };
 }
 
-/// Clears each bit `i` of `bits` for which row `a + i` of the left array and row `b + i` of the
-/// right one are not equal. If a row is masked on either side, a bit of 1 may become 0 or stay 1.
-/// The error is `Memory`; numbers need no memory.
+/// Clears each bit `i` of `bits` for which row `a + i` of `left` and row `b + i` of `right` are
+/// both present and differ. If one of the two rows is null, the function may clear the bit or leave
+/// it. Both arrays have the same leaf type. The error is `Memory`; numbers need no memory.
 #[tactic(auto, using(crate::proofs::Strings::counts, crate::proofs::Cases::cases))]
 #[inline]
 pub(crate) fn and_leaf_windows(

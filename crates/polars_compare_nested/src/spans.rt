@@ -1,6 +1,6 @@
-//! Loops over lists between offsets of 32 or 64 bits, which test whether lists match, and whether
-//! the bits of all their items are set. The offsets are passed as slices, in addition to their
-//! array.
+//! Loops over lists with offsets of 32 or 64 bits. They test whether two lists match (have equally
+//! many items, and are both present or empty), and whether the bits of all items of a list are set.
+//! The offsets are passed as slices, beside the list array that they belong to.
 
 ghost use Rattle.std.specs.Option.{option_copied};
 ghost use Rattle.std.specs.Prelude.{◌≡◌, ℕ, ◌+◌, ◌-◌, ◌^◌, ◌<◌, ◌≤◌, ◌↔◌, ◌&&◌, IfSome, IsTrue};

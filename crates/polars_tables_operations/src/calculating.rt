@@ -33,7 +33,8 @@ pub fn change_rows<T: LineNumber>(
 }
 
 // Calculates with the numbers of two arrays of equal length, row by row, for calculations in which
-// the order matters. The error is `Memory`.
+// the order matters. The result is null where an operand is null or the divisor is 0. The error is
+// `Memory`.
 fn calculate_in_order<T: LineNumber>(
     alloc: Global,
     calculation: OrderedCalculation,
@@ -76,8 +77,9 @@ pub fn calculate_rows<T: LineNumber>(
     }
 }
 
-// Calculates with each number of an array on the left, and a scalar on the right, for calculations
-// in which the order matters. The error is `Memory`.
+// Calculates with each number of an array as the left operand and a scalar as the right one, for
+// calculations in which the order matters. The result is null where the number is null or the
+// divisor is 0. The error is `Memory`.
 fn calculate_scalar_in_order<T: LineNumber>(
     alloc: Global,
     calculation: OrderedCalculation,

@@ -30,8 +30,9 @@ use recorded_text::store::Store;
 use recorded_text::words::Words;
 use std::alloc::Global;
 
-/// Reads the arguments of the call named `call` from `words`, and returns its result as text, or
-/// `None` if this crate has no such call. Arrays are named in `words` and found in `store`.
+/// Runs the call named `call` with arguments from `words`, and returns its result as text, or
+/// `None` if this crate has no such call. An argument that is an array is the name of an array in
+/// `store`. The errors are those of the call, besides the ones that each of them has (see above).
 pub fn answer(
     alloc: Global,
     call: &str,

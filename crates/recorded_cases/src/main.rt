@@ -52,8 +52,8 @@ fn report(rt: &impl Print, name: &str, tally: Tally, is_wrong: bool) -> Result<b
     })
 }
 
-/// Checks the file `name`, and returns whether its counts are right. Returns `true` if `mode` is
-/// `Print`.
+/// Checks the cases in the file `name`, and returns whether the results are as `mode` asks. If
+/// `mode` is `Print`, prints the results, and returns `true`.
 fn check_file<R: Files + Print + Eprint + AllocGlobal>(
     rt: &R,
     name: &str,
@@ -68,8 +68,8 @@ fn check_file<R: Files + Print + Eprint + AllocGlobal>(
     }
 }
 
-/// Checks standard input, and returns whether its counts are right. Returns `true` if `mode` is
-/// `Print`.
+/// Checks the cases on standard input, and returns whether all results are right. If `mode` is
+/// `Print`, prints the results, and returns `true`.
 fn check_input<R: Input + Print + Eprint + AllocGlobal>(rt: &R, mode: Mode) -> Result<bool, Fault> {
     let name = "standard input";
     let text = io::read_to_string(rt.alloc(), rt.reader())?;

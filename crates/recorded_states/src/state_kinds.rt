@@ -47,8 +47,9 @@ pub enum Shown {
 
 /// A state that can count the rows that it reads.
 pub trait CountedState: RecordedState {
-    /// Appends `array` to the state, and returns the number of rows read. The error is `Case` if
-    /// the state does not accept the array.
+    /// Appends `array` to the state, and returns the number of rows read, which is less than the
+    /// length if all values were seen before. The error is `Case` if the state does not accept the
+    /// array, since it has a value outside the range of the state.
     fn append_and_count(&mut self, array: &Self::Array) -> Result<u64, Fault>;
 }
 

@@ -1,5 +1,6 @@
-//! Finds the differences between two schemas. A schema is a list of parts, which are columns or
-//! paths.
+//! Finds the differences between two schemas. A schema is a list of parts. A part is a column of a
+//! table or a path of documents, with its name and with the kinds of its values (such as integers,
+//! texts, nulls).
 
 ghost use Rattle.std.specs.List.{count_by};
 ghost use Rattle.std.specs.Option.{option_copied};
