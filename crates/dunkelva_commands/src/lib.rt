@@ -2,6 +2,7 @@
 #![tactic(auto)]
 
 mod columns;
+mod commas;
 mod document_key;
 mod key_columns;
 mod outputs;

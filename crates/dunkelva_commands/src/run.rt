@@ -1,9 +1,10 @@
 //! The commands of the program, and the exit status of each.
 
+use crate::commas::warn_of_commas;
 use crate::outputs::refuse_own_target;
 use crate::schema::show_schema;
 use crate::schema_changes::compare_schemas;
-use crate::tasks::{Task, compare_named};
+use crate::tasks::{Task, compare_named, compare_watching};
 use crate::unfound::{refuse_unknown_only, warn_of_unknown};
 use clap::ArgMatches;
 use diff_columns::choice::Choice;
@@ -30,17 +31,53 @@ use dunkelva_settings::words::{
 use json_changes::changes::Rules;
 use std::env;
 
+/// The exit status of a comparison that found a difference.
+const DIFFERENT: u8 = 1;
+
 /// The exit status if the program fails, for example because files can't be compared.
 const TROUBLE: u8 = 2;
 
-/// Compares the CSV files `left` and `right` with the columns that `names` gives and with
-/// `tolerances`. The other options are those in `matches`. Writes the report to `target`, and
-/// returns the exit status. Fails if an option is invalid or can't be given with `--sorted`, or if
-/// the comparison fails.
-fn diff_by_names(
+/// Compares the two CSV files `files` with `options`; `matches` says whether they are sorted by key.
+/// Writes the report to `target`, and returns the exit status. Warns of a repeated key, unless the
+/// files are sorted or keys have to be unique, and of numbers with a comma. Fails if an option can't
+/// be given with `--sorted`, or if the comparison fails.
+fn compare_by(
     rt: &HostRuntime,
     matches: &ArgMatches<'_>,
     (left, right): (&str, &str),
+    options: Options<'_>,
+    target: Target<'_>,
+) -> Result<u8> {
+    let is_said = matches.contains_id("input");
+    if matches.get_flag("sorted") {
+        refuse_unsorted(matches)?;
+        return compare_named(rt, left, right, is_said, Task::Sorted(&options), target);
+    }
+    let task = Task::Tables(&options);
+    let status = if options.choice.keys.is_empty() || options.unique {
+        compare_named(rt, left, right, is_said, task, target)?
+    } else {
+        let unique = Options {
+            unique: true,
+            ..options
+        };
+        let first = Task::Tables(&unique);
+        compare_watching(rt, (left, right), is_said, first, task, target)?
+    };
+    if status == DIFFERENT {
+        warn_of_commas(rt, left, &options);
+    }
+    Ok(status)
+}
+
+/// Compares the two CSV files `files` with the columns that `names` gives and with `tolerances`.
+/// The other options are those in `matches`. Writes the report to `target`, and returns the exit
+/// status. Fails if an option is invalid or can't be given with `--sorted`, or if the comparison
+/// fails.
+fn diff_by_names(
+    rt: &HostRuntime,
+    matches: &ArgMatches<'_>,
+    files: (&str, &str),
     names: &Names<'_>,
     tolerances: &[Tolerance<'_>],
     target: Target<'_>,
@@ -52,7 +89,7 @@ fn diff_by_names(
     };
     let options = Options {
         choice,
-        csv: csv_options(matches, left, right)?,
+        csv: csv_options(matches, files.0, files.1)?,
         numbers: matches
             .get_flag("numbers")
             .then_some(names.texts.as_slice()),
@@ -65,12 +102,7 @@ fn diff_by_names(
         format: format_of(matches),
         colored: is_colored(rt, matches),
     };
-    let is_said = matches.contains_id("input");
-    if matches.get_flag("sorted") {
-        refuse_unsorted(matches)?;
-        return compare_named(rt, left, right, is_said, Task::Sorted(&options), target);
-    }
-    compare_named(rt, left, right, is_said, Task::Tables(&options), target)
+    compare_by(rt, matches, files, options, target)
 }
 
 /// Compares the two CSV files `files` with the options in `matches`. Writes the report to `target`,
@@ -86,6 +118,33 @@ fn diff_tables(
     let names = Names::of(rt.alloc(), matches)?;
     let tolerances = tolerances_of(rt.alloc(), matches, &names.keys)?;
     diff_by_names(rt, matches, files, &names, &tolerances, target)
+}
+
+/// Compares the two files of documents `files` with `options`. Writes the report to `target`, and
+/// returns the exit status. Warns of a repeated key, unless keys have to be unique. Fails if the
+/// comparison fails.
+fn compare_by_paths(
+    rt: &HostRuntime,
+    files: (&str, &str),
+    options: DocumentOptions<'_>,
+    target: Target<'_>,
+) -> Result<u8> {
+    let task = Task::Documents(&options);
+    if options.keys.is_empty() || options.unique {
+        return compare_named(rt, files.0, files.1, true, task, target);
+    }
+    let unique = DocumentOptions {
+        keys: options.keys,
+        names: options.names,
+        reading: options.reading,
+        rules: options.rules,
+        limit: options.limit,
+        unique: true,
+        format: options.format,
+        colored: options.colored,
+    };
+    let first = Task::Documents(&unique);
+    compare_watching(rt, files, true, first, task, target)
 }
 
 /// Compares the files of documents `left` and `right` with the given keys and rules. The other
@@ -115,7 +174,7 @@ fn diff_by_paths(
         colored: is_colored(rt, matches),
     };
     refuse_unknown_only(rt, matches, rules, left, right)?;
-    let status = compare_named(rt, left, right, true, Task::Documents(&options), target)?;
+    let status = compare_by_paths(rt, (left, right), options, target)?;
     warn_of_unknown(rt, matches, keys, rules, left, right);
     Ok(status)
 }

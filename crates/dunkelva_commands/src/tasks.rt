@@ -15,8 +15,8 @@ use diff_words::formats::Format;
 use document_run::error::DocumentError;
 use document_run::options::DocumentOptions;
 use document_run::run::run_documents;
-use dunkelva_messages::error::Result;
-use dunkelva_messages::files::{Source, open, total_of};
+use dunkelva_messages::error::{About, Result};
+use dunkelva_messages::files::{Source, open, open_again, total_of};
 use dunkelva_messages::hints::explained;
 use dunkelva_messages::trouble;
 use dunkelva_settings::words::Target;
@@ -398,4 +398,40 @@ pub(crate) fn compare_named(
         Ok(status) => Ok(status),
         Err(error) => Err(explained(rt, error, &[names.0, names.1])),
     }
+}
+
+/// Returns whether a comparison of the files named `left` and `right` can warn of a repeated key:
+/// whether both files can be read a second time.
+fn can_repeat(rt: &HostRuntime, left: &str, right: &str) -> bool {
+    open_again(rt, left).is_some() && open_again(rt, right).is_some()
+}
+
+/// Compares the files named `left` and `right` as `compare_named` does with `task`. If both can be
+/// read a second time, warns on standard error of a repeated key: `unique`, the same comparison
+/// with unique keys, is run first, and if it finds a repeated key, `task` is run, and the warning
+/// names the key. Returns the exit status.
+pub(crate) fn compare_watching(
+    rt: &HostRuntime,
+    (left, right): (&str, &str),
+    may_be_documents: bool,
+    unique: Task<'_>,
+    task: Task<'_>,
+    target: Target<'_>,
+) -> Result<u8> {
+    if !can_repeat(rt, left, right) {
+        return compare_named(rt, left, right, may_be_documents, task, target);
+    }
+    let error = match compare_named(rt, left, right, may_be_documents, unique, target) {
+        Ok(status) => return Ok(status),
+        Err(error) => error,
+    };
+    let About::OneKey = error.part() else {
+        return Err(error);
+    };
+    let status = compare_named(rt, left, right, may_be_documents, task, target)?;
+    let _ = eprintln!(rt;
+        "dunkelva: warning: {error} (rows of one key are matched in their order; \
+         --unique refuses them)"
+    );
+    Ok(status)
 }

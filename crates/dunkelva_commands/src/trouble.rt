@@ -197,9 +197,9 @@ fn with_hint(error: Error, hint: Option<String>) -> Error {
 }
 
 /// Returns the error for two rows or documents with the same key, at the lines `first` and `again`.
-/// If `key`, the key as text, is given, it becomes the hint.
+/// If `key`, the key as text, is given, it becomes the hint. The cause of the error is `OneKey`.
 fn one_key(first: u64, again: u64, key: Option<String>) -> Error {
-    with_hint(trouble!("lines {first} and {again} have the same key"), key)
+    with_hint(trouble!("lines {first} and {again} have the same key"), key).about(About::OneKey)
 }
 
 /// Returns the error for two rows of `file` with the same key, at the lines `first` and `again`.

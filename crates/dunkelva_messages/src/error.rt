@@ -33,6 +33,8 @@ pub enum About {
     Lengths(Lengths),
     /// A line is not a document. The fault is at this column; the first line and column are 1.
     Line { line: u64, column: u64 },
+    /// Two rows or documents of the file have the same key.
+    OneKey,
     /// Anything else.
     Other,
 }

@@ -200,7 +200,7 @@ fn hint_of(rt: &HostRuntime, error: &Error) -> Option<&'static str> {
         About::Records => records_hint(rt, file),
         About::Lengths(lengths) => lengths_hint(rt, file, lengths),
         About::Line { line, column } => line_hint(rt, file, line, column),
-        About::Other => None,
+        About::OneKey | About::Other => None,
     }
 }
 

@@ -6,7 +6,7 @@ const MOST_OTHER: usize = 2;
 /// The least number of bytes that similar names have in common.
 const LEAST_COMMON: usize = 2;
 
-/// Returns `byte` in lower case, or a hyphen if it is an underscore.
+/// Returns `byte` with an ASCII letter in lower case, and a hyphen for an underscore.
 fn folded(byte: u8) -> u8 {
     match byte {
         b'_' => b'-',
@@ -14,8 +14,8 @@ fn folded(byte: u8) -> u8 {
     }
 }
 
-/// Returns whether there are two bytes and they are equal apart from their case. A hyphen and an
-/// underscore are equal.
+/// Returns whether there are two bytes and they are equal (`folded`): the case of ASCII letters
+/// does not count, and a hyphen and an underscore are equal.
 fn are_alike(one: Option<&u8>, other: Option<&u8>) -> bool {
     match (one, other) {
         (Some(one), Some(other)) => folded(*one) == folded(*other),
@@ -23,8 +23,8 @@ fn are_alike(one: Option<&u8>, other: Option<&u8>) -> bool {
     }
 }
 
-/// Returns the length of the longest common beginning of two names, in bytes. Case does not count,
-/// and a hyphen and an underscore are equal.
+/// Returns the length of the longest common beginning of two names, in bytes. Bytes are equal as
+/// `are_alike` says.
 fn common_start(one: &[u8], other: &[u8]) -> usize {
     let most = one.len().min(other.len());
     for i in 0..most {
@@ -41,8 +41,8 @@ fn from_end(name: &[u8], place: usize) -> Option<&u8> {
     name.get(name.len().checked_sub(place.saturating_add(1))?)
 }
 
-/// Returns the length of the longest common end of two names, in bytes, but at most `most`. Case
-/// does not count, and a hyphen and an underscore are equal.
+/// Returns the length of the longest common end of two names, in bytes, but at most `most`. Bytes
+/// are equal as `are_alike` says.
 fn common_end(one: &[u8], other: &[u8], most: usize) -> usize {
     for i in 0..most {
         if !are_alike(from_end(one, i), from_end(other, i)) {
@@ -52,16 +52,17 @@ fn common_end(one: &[u8], other: &[u8], most: usize) -> usize {
     most
 }
 
-/// Returns whether two names are equal apart from their case. A hyphen and an underscore are equal.
-/// Equal names give true.
+/// Returns whether two names are equal apart from the case of ASCII letters. A hyphen and an
+/// underscore are equal. Equal names give true.
 fn differ_by_case(one: &[u8], other: &[u8]) -> bool {
     one.len() == other.len() && common_start(one, other) == one.len()
 }
 
 /// Returns the number of bytes that are left of the longer of two names without the longest
 /// beginning and the longest end that both have in common, and `None` if the names are not similar.
-/// Similar names have at most two such bytes, and at least two bytes in common. Case does not
-/// count, and a hyphen and an underscore are equal: names that differ only so give 0.
+/// Similar names have at most two such bytes, and at least two bytes in common. The case of ASCII
+/// letters does not count, and a hyphen and an underscore are equal: names that differ only so give
+/// 0.
 pub fn distance(one: &[u8], other: &[u8]) -> Option<usize> {
     if differ_by_case(one, other) {
         return Some(0);

@@ -7,7 +7,7 @@
 
 use crate::given::{is_given, split_word};
 use crate::options::{CliOption, Takes, options};
-use crate::refusals::form_advice;
+use crate::refusals::{advice_of_name, form_advice};
 use dunkelva_messages::error::{Error, Result};
 use dunkelva_messages::names::quoted;
 use dunkelva_messages::near::distance;
@@ -163,9 +163,21 @@ fn push_names(words: &mut Vec<String>, alloc: Global, name: &str, value: &Value)
     Ok(())
 }
 
+/// Returns whether `bound`, which a table of bounds sets for `path`, is rather the value of the
+/// option `path`: whether there is such an option, and `bound` is no number, as text or otherwise.
+/// In TOML a line below `[tolerance]` belongs to this table.
+fn is_option_below(path: &str, bound: &Value) -> bool {
+    let is_number = match bound {
+        Value::String(text) => !text.contains(|c: char| c.is_alphabetic()),
+        Value::Integer(_) | Value::Float(_) => true,
+        _ => false,
+    };
+    is_known(path) && !is_number
+}
+
 /// Appends the argument `--name=path=bound`, with quotes around a path that has a comma. Fails if
-/// `bound` is neither a string nor an integer. A float is refused since reading it may have lost
-/// digits.
+/// `bound` is neither a string nor an integer, or if it is the value of an option
+/// (`is_option_below`). A float is refused since reading it may have lost digits.
 fn push_bound(
     words: &mut Vec<String>,
     alloc: Global,
@@ -173,6 +185,9 @@ fn push_bound(
     path: &str,
     bound: &Value,
 ) -> Result<()> {
+    if is_option_below(path, bound) {
+        return Err(trouble!("set {path} above [{name}]: lines below it are bounds"));
+    }
     let quotes = quotes_for(path);
     match bound {
         Value::String(text) => {
@@ -233,8 +248,8 @@ fn is_known(name: &str) -> bool {
     name == "left" || name == "right"
 }
 
-/// Returns the name of the option that is most similar to `name` (`distance`), or `None` if no option
-/// is similar. If several options are equally similar, returns the first one.
+/// Returns the name of the option that is most similar to `name` (`distance`), or `None` if no
+/// option is similar. If several options are equally similar, returns the first one.
 pub(crate) fn option_near(name: &str) -> Option<&'static str> {
     let mut least = usize::MAX;
     let mut near = None;
@@ -249,16 +264,25 @@ pub(crate) fn option_near(name: &str) -> Option<&'static str> {
     near
 }
 
-/// Fails if `table`, the content of a config file, sets a name that is unknown. The error suggests
-/// a similar option, if there is one.
+/// Returns the error for `name`, which a config file sets and which is no option. A hint says what
+/// to give in place of an option of another program, or else names a similar option, if there is
+/// one.
+fn unknown(name: &str) -> Error {
+    let error = trouble!("a file of options can't set {}", quoted(name));
+    if let Some(advice) = advice_of_name(name) {
+        return error.hint(advice);
+    }
+    match option_near(name) {
+        Some(id) if id != CONFIG => error.hint(format_args!("did you mean {id:?}?")),
+        _ => error.hint("it sets options by their names, as schema-only"),
+    }
+}
+
+/// Fails if `table`, the content of a config file, sets a name that is unknown.
 fn refuse_unknown(table: &Table) -> Result<()> {
     for (name, _) in table {
         if !is_known(name) {
-            let error = trouble!("a file of options can't set {}", quoted(name));
-            return match option_near(name) {
-                Some(id) if id != CONFIG => Err(error.hint(format_args!("did you mean {id:?}?"))),
-                _ => Err(error.hint("it sets options by their names, as schema-only")),
-            };
+            return Err(unknown(name));
         }
     }
     Ok(())
@@ -362,6 +386,16 @@ fn lacks_quotes(line: &str) -> bool {
     is_word && !["true", "false", "inf", "nan"].contains(&word)
 }
 
+/// Returns whether a line of TOML sets one of the words that other formats take for true or false,
+/// such as `unique = yes`.
+fn sets_other_truth(line: &str) -> bool {
+    let Some((_, value)) = line.split_once('=') else {
+        return false;
+    };
+    let word = value.split('#').next().unwrap_or("").trim();
+    ["yes", "no", "on", "off", "True", "False", "TRUE", "FALSE"].contains(&word)
+}
+
 /// Returns whether a line seems to be of YAML or JSON, such as `key: id` or `{"key": "id"}`.
 fn is_other_format(line: &str) -> bool {
     let line = line.trim_start();
@@ -381,6 +415,9 @@ fn no_table(text: &str, error: &toml::de::Error) -> Error {
     let line = text.lines().nth(number.saturating_sub(1));
     if line.is_some_and(is_other_format) {
         return trouble!("line {number}: options are TOML, as key = \"id\"").hint(error.message());
+    }
+    if line.is_some_and(sets_other_truth) {
+        return trouble!("line {number}: write true or false").hint(error.message());
     }
     if line.is_some_and(lacks_quotes) {
         return trouble!("line {number}: put text in quotes, as in key = \"id\"").hint(

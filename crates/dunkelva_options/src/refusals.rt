@@ -78,7 +78,8 @@ const TEXTS: &str = "texts are compared exactly, with case and blanks: convert t
 
 const ORDER: &str = "rows may be in any order; the items of JSON arrays are compared in theirs";
 
-const NAMES: &str = "columns are not renamed: the two files have to have the same names";
+const NAMES: &str =
+    "rename the columns of one file before, as in <(sed '1s/OLD/NEW/' FILE) in place of FILE";
 
 const ALIGNED: &str = "for aligned columns give --width N";
 
@@ -196,6 +197,17 @@ fn advice_in(words: &[&str], others: &[(&str, &'static str)]) -> Option<&'static
             if option_in(*word) == *option {
                 return Some(*advice);
             }
+        }
+    }
+    None
+}
+
+/// Returns the advice for the option `name` of another program, without its hyphens, or `None` if
+/// there is none.
+pub(crate) fn advice_of_name(name: &str) -> Option<&'static str> {
+    for (option, advice) in &OTHERS_OF_DIFF {
+        if option.strip_prefix("--") == Some(name) {
+            return Some(*advice);
         }
     }
     None

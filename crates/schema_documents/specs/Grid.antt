@@ -1,6 +1,6 @@
 -- The schemas of paths, as a table of words.
 use Rattle.std.specs.Fmt.{decimal}
-use Rattle.std.specs.Prelude.{ℕ, List, [], ◌∷◌, ◌++◌, codes, option_map}
+use Rattle.std.specs.Prelude.{◌==◌, ℕ, if◌then◌else◌, List, [], ◌∷◌, ◌++◌, codes, option_map}
 use Rattle.json_plain.specs.Plain.{plain_json}
 use Rattle.schema_columns.specs.declared.kind.Kind.TheVariants.{Number}
 use Rattle.schema_paths.specs.declared.paths.PathSchema.{PathSchema}
@@ -30,9 +30,13 @@ head_cells s = plain_json s.path.items ∷ decimal s.nulls ∷ decimal s.missing
 abbrev pub kind_cells : PathSchema → List (List ℕ)
 kind_cells s = decimal s.truths ∷ decimal s.texts ∷ decimal s.objects ∷ decimal s.arrays ∷ []
 
+-- how many of the numbers differ, or a hyphen where there are no numbers
+abbrev pub distinct_text : PathSchema → List ℕ
+distinct_text s = if s.numbers == 0 then codes "-" else count_text s.distinct
+
 -- how many numbers there are, and how many of them differ
 abbrev pub number_cells : PathSchema → List (List ℕ)
-number_cells s = decimal s.numbers ∷ count_text s.distinct ∷ []
+number_cells s = decimal s.numbers ∷ distinct_text s ∷ []
 
 -- the least and the greatest number
 abbrev pub end_cells : PathSchema → List (List ℕ)

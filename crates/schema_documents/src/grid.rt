@@ -4,7 +4,7 @@ ghost use Rattle.std.specs.Fmt.{decimal};
 ghost use Rattle.std.specs.Prelude.{◌≡◌, ◌++◌, ◌∷◌, [], ℕ, List, map, OnOk, IfOk, MatchResult};
 ghost use Rattle.polars_arrays_bits.specs.Errors.{IsMemory};
 ghost use Rattle.diff_tables.specs.Strings.{AreStrings};
-ghost use Rattle.schema_documents.specs.Grid.{end_cells, head_cells, head_names, header};
+ghost use Rattle.schema_documents.specs.Grid.{distinct_text, end_cells, head_cells, head_names, header};
 ghost use Rattle.schema_documents.specs.Grid.{kind_cells, kind_names, number_cells, number_names};
 ghost use Rattle.schema_documents.specs.Grid.{row_of};
 
@@ -116,8 +116,20 @@ fn push_kinds(cells: &mut Strings, room: &mut Vec<u8>, path: &PathSchema) -> Res
     Ok(())
 }
 
-/// Appends the number of numbers, and the number of different numbers, or a hyphen if the latter is
-/// `None`. `room` is memory that is overwritten.
+/// Appends the number of different numbers, or a hyphen if the path has no numbers or if `distinct`
+/// is `None`.
+fn push_distinct(out: &mut Vec<u8>, path: &PathSchema) -> Result<(), AllocError>
+    ensures { OnOk result (out.new.items ≡ out.old.items ++ distinct_text path.now) }
+{
+    if path.numbers == 0 {
+        out.push(b'-')?;
+        return Ok(());
+    }
+    push_count(out, path.distinct)
+}
+
+/// Appends the number of numbers, and the number of different numbers (`push_distinct`). `room` is
+/// memory that is overwritten.
 fn push_numbers(
     cells: &mut Strings,
     room: &mut Vec<u8>,
@@ -129,7 +141,7 @@ fn push_numbers(
 {
     push_number(cells, room, path.numbers)?;
     room.clear();
-    push_count(room, path.distinct)?;
+    push_distinct(room, path)?;
     cells.push(room)?;
     Ok(())
 }

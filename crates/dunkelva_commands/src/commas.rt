@@ -1,0 +1,90 @@
+//! A warning about numbers that are written with a comma, which are compared as texts.
+
+use csv::ByteRecord;
+use diff_csv::source::Source;
+use diff_run::options::Options;
+use dunkelva_messages::files::open_again;
+use dunkelva_messages::names::quoted;
+use polars_arrays_flat::byte_rows::ByteRows;
+use std::alloc::Global;
+
+/// The greatest number of rows of a file in which numbers with a comma are searched.
+const MOST_ROWS: usize = 1000;
+
+/// Returns whether `cell` is a number with a comma, as `12,50` or `-1.234,5`: after an optional
+/// minus sign it has only digits, points and commas, with a digit at both ends and a comma between.
+fn has_comma(cell: &[u8]) -> bool {
+    let digits = cell.strip_prefix(b"-").unwrap_or(cell);
+    let is_number = digits
+        .iter()
+        .all(|byte| byte.is_ascii_digit() || *byte == b'.' || *byte == b',');
+    let first = digits.first().is_some_and(|byte| byte.is_ascii_digit());
+    let last = digits.last().is_some_and(|byte| byte.is_ascii_digit());
+    is_number && first && last && digits.contains(&b',')
+}
+
+/// Returns whether numbers in the column named `name` are compared by value.
+fn has_numbers(name: &[u8], options: &Options<'_>) -> bool {
+    let has_tolerance = options
+        .tolerances
+        .unwrap_or(&[])
+        .iter()
+        .any(|tolerance| tolerance.column == name);
+    let is_number = options.numbers.is_some_and(|texts| !texts.contains(&name));
+    let is_only = options.choice.only.is_none_or(|only| only.contains(&name));
+    let is_compared = is_only && !options.choice.ignored.contains(&name);
+    is_compared && (is_number || has_tolerance)
+}
+
+/// Returns the number and the column for the warning, as `"12,50" in column "price"`: those of the
+/// first number with a comma in `row`, if numbers in its column are compared by value. `names` are
+/// the names of the columns. Returns `None` if there is none, if the name is not UTF-8, or if an
+/// allocation fails.
+fn found_in<N: ByteRows>(
+    alloc: Global,
+    names: &N,
+    row: &ByteRecord,
+    options: &Options<'_>,
+) -> Option<String> {
+    for c in 0..names.count() {
+        let (name, cell) = (names.bytes(c), row.get(c)?);
+        if has_comma(cell) && has_numbers(name, options) {
+            let number = quoted(str::from_utf8(cell).ok()?);
+            let name = quoted(str::from_utf8(name).ok()?);
+            return format!(in alloc; "{number} in column {name}").ok();
+        }
+    }
+    None
+}
+
+/// Reads the first rows of the regular file `file` again, and returns the first number with a comma
+/// as `found_in` does. Returns `None` if there is none, if the file can't be read again, or if an
+/// allocation fails.
+fn found(rt: &HostRuntime, file: &str, options: &Options<'_>) -> Option<String> {
+    let alloc = rt.alloc();
+    let source = Source::open(alloc, open_again(rt, file)?, options.csv).ok()?;
+    let names = source.names(alloc).ok()?;
+    let mut reader = source.rows(alloc).ok()?;
+    let mut row = Box::new(alloc, ByteRecord::new(alloc)).ok()?;
+    for _ in 0..MOST_ROWS {
+        reader.read(&mut row).ok()??;
+        if let Some(found) = found_in(alloc, &names, &row, options) {
+            return Some(found);
+        }
+    }
+    None
+}
+
+/// Prints a warning on standard error if numbers are compared by value, and one of the first rows
+/// of `file` has a number with a comma in such a column: it is compared as a text. Prints nothing
+/// if `file` can't be read again.
+pub(crate) fn warn_of_commas(rt: &HostRuntime, file: &str, options: &Options<'_>) {
+    if options.numbers.is_none() && options.tolerances.is_none() {
+        return;
+    }
+    if let Some(found) = found(rt, file, options) {
+        let _ = eprintln!(rt;
+            "dunkelva: warning: {file}: {found} is compared as text: numbers have no comma"
+        );
+    }
+}
