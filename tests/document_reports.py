@@ -906,13 +906,21 @@ def paths_sought(options):
     ]
 
 
+def repeats_warned(pair):
+    """Returns the line that a run over two files which ends well says of a repeated key, if there
+    is one."""
+    _, sides = faults_said(pair)
+    twice = pair.options["keys"] and not pair.options["unique"] and key_fault(sides, pair.options)
+    return table_reports.repeat_warned(twice).encode() if twice else b""
+
+
 def warned(pair):
-    """Returns the lines that a run over a pair which ends well says of paths that no document
-    has. Of a pair with a standard input only paths of --only are looked for, in the other file."""
+    """Returns the lines that a run over a pair which ends well says of a repeated key and of paths
+    that no document has. Of a pair with a standard input only paths of --only are looked for, in the other file."""
     contents, sought = (pair.left_bytes, pair.right_bytes), paths_sought(pair.options)
     piped = pair.options["piped"]
     if piped is None:
-        return warnings(sought, b"\n".join(contents))
+        return repeats_warned(pair) + warnings(sought, b"\n".join(contents))
     of_only = [it for it in sought if it[0] == "--only"]
     told = f"document of {pair.options['files'][1 - piped]}"
     lines = warnings(of_only, contents[1 - piped], told)

@@ -203,6 +203,8 @@ def text_complaint(text, schemas, documents):
     for line, it in zip(lines, schemas):
         shown = [line[a:b].rstrip() for a, b in zip(starts, [*starts[1:], None])]
         members = [it[name.replace(" ", "_")] for name in HEADER]
+        if not it["number"]:
+            members[HEADER.index("distinct")] = None
         if shown[1:] != ["-" if it is None else str(it) for it in members[1:]]:
             return f"another line: {line!r}"
         if shown[0] != document_reports.shown(it["path"]):

@@ -18,6 +18,9 @@ Comparison = collections.namedtuple(
 # a number as RFC 8259 writes it: what stands before its exponent, and the exponent
 NUMBER = re.compile(r"(-?(?:0|[1-9][0-9]*)(?:\.[0-9]+)?)(?:[eE]([+-]?[0-9]+))?")
 MOST_DIGITS = 30
+# a number with a comma, and how many rows are searched for one
+WITH_COMMA = re.compile(r"-?(?=[^,]*,)[0-9](?:[0-9.,]*[0-9])?")
+MOST_ROWS = 1000
 # no message has more bytes of a cell than this
 MOST_BYTES = 60
 
@@ -319,10 +322,8 @@ def key_hint(file, row, keys):
     return "" if file == "-" else ": " + ", ".join(cut_cell(row[k]) for k in keys)
 
 
-def key_twice(pair):
+def repeated_key(pair):
     """Returns what is said of the first row whose key an earlier row of its file has, or None."""
-    if not pair.options["unique"]:
-        return None
     found = comparison_of(pair)
     files = random_tables.named_files(pair.options)
     sides = zip(files, (pair.left, pair.right), found.compared, found.sides)
@@ -335,6 +336,47 @@ def key_twice(pair):
                 hint = key_hint(file, whole[first], found.keys)
                 return f"{file}: {lines} have the same key{hint}"
     return None
+
+
+def key_twice(pair):
+    """Returns what is said of a repeated key where keys have to be unique, or None."""
+    return repeated_key(pair) if pair.options["unique"] else None
+
+
+def repeat_warned(said):
+    """Returns the line that a run which ends well says of a repeated key."""
+    return f"dunkelva: warning: {said} (rows of one key are matched in their order; --unique refuses them)\n"
+
+
+def number_with_comma(table, options):
+    """Returns what is said of the first number with a comma in a table, in a column whose numbers
+    are compared by value, or None."""
+    bounded = [name for name, *_ in options.get("tolerances", [])]
+    for row in table.rows[:MOST_ROWS]:
+        for name, cell in zip(table.names, row):
+            by_value = options["numbers"] and name not in options.get("texts", []) or name in bounded
+            if by_value and is_chosen(name, options) and WITH_COMMA.fullmatch(cell):
+                return f'"{cell}" in column {in_quotes(name, "latin-1")}'
+    return None
+
+
+def comma_warned(pair):
+    """Returns the line that a run which finds a difference says of a number with a comma, if there
+    is one."""
+    for file, table in zip(random_tables.named_files(pair.options), (pair.left, pair.right)):
+        if file != "-" and (number := number_with_comma(table, pair.options)):
+            return f"dunkelva: warning: {file}: {number} is compared as text: numbers have no comma\n"
+    return ""
+
+
+def warned(pair):
+    """Returns what a run over two tables that ends well says."""
+    options, said = pair.options, ""
+    if options["piped"] is None and options["keys"] and not options["unique"] and (twice := repeated_key(pair)):
+        said = repeat_warned(twice)
+    if status_of(comparison_of(pair)):
+        said += comma_warned(pair)
+    return said.encode("latin-1")
 
 
 def in_message(char):
@@ -396,7 +438,7 @@ def is_right(ran, pair):
     if said:
         return ran == (2, b"", f"dunkelva: {said}\n".encode("latin-1"))
     return (
-        not ran.said
+        ran.said == warned(pair)
         and ran.status == status_of(comparison_of(pair))
         and is_report(ran.printed, pair)
     )

@@ -32,7 +32,8 @@ fn has_numbers(name: &[u8], options: &Options<'_>) -> bool {
         .any(|tolerance| tolerance.column == name);
     let is_number = options.numbers.is_some_and(|texts| !texts.contains(&name));
     let is_only = options.choice.only.is_none_or(|only| only.contains(&name));
-    let is_compared = is_only && !options.choice.ignored.contains(&name);
+    let is_chosen = is_only && !options.choice.ignored.contains(&name);
+    let is_compared = is_chosen || options.choice.keys.contains(&name);
     is_compared && (is_number || has_tolerance)
 }
 
@@ -76,15 +77,18 @@ fn found(rt: &HostRuntime, file: &str, options: &Options<'_>) -> Option<String> 
 }
 
 /// Prints a warning on standard error if numbers are compared by value, and one of the first rows
-/// of `file` has a number with a comma in such a column: it is compared as a text. Prints nothing
-/// if `file` can't be read again.
-pub(crate) fn warn_of_commas(rt: &HostRuntime, file: &str, options: &Options<'_>) {
+/// of `left` or `right` has a number with a comma in such a column: it is compared as a text. A
+/// file that can't be read again is not searched.
+pub(crate) fn warn_of_commas(rt: &HostRuntime, left: &str, right: &str, options: &Options<'_>) {
     if options.numbers.is_none() && options.tolerances.is_none() {
         return;
     }
-    if let Some(found) = found(rt, file, options) {
-        let _ = eprintln!(rt;
-            "dunkelva: warning: {file}: {found} is compared as text: numbers have no comma"
-        );
+    for file in [left, right] {
+        if let Some(found) = found(rt, file, options) {
+            let _ = eprintln!(rt;
+                "dunkelva: warning: {file}: {found} is compared as text: numbers have no comma"
+            );
+            return;
+        }
     }
 }

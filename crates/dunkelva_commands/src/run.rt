@@ -65,7 +65,7 @@ fn compare_by(
         compare_watching(rt, (left, right), is_said, first, task, target)?
     };
     if status == DIFFERENT {
-        warn_of_commas(rt, left, &options);
+        warn_of_commas(rt, left, right, &options);
     }
     Ok(status)
 }

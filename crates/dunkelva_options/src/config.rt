@@ -264,16 +264,14 @@ pub(crate) fn option_near(name: &str) -> Option<&'static str> {
     near
 }
 
-/// Returns the error for `name`, which a config file sets and which is no option. A hint says what
-/// to give in place of an option of another program, or else names a similar option, if there is
-/// one.
+/// Returns the error for `name`, which a config file sets and which is no option. A hint names a
+/// similar option, or else says what to give in place of an option of another program, if it knows
+/// either.
 fn unknown(name: &str) -> Error {
     let error = trouble!("a file of options can't set {}", quoted(name));
-    if let Some(advice) = advice_of_name(name) {
-        return error.hint(advice);
-    }
-    match option_near(name) {
-        Some(id) if id != CONFIG => error.hint(format_args!("did you mean {id:?}?")),
+    match (option_near(name), advice_of_name(name)) {
+        (Some(id), _) if id != CONFIG => error.hint(format_args!("did you mean {id:?}?")),
+        (_, Some(advice)) => error.hint(advice),
         _ => error.hint("it sets options by their names, as schema-only"),
     }
 }
