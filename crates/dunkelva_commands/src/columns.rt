@@ -9,7 +9,8 @@ use dunkelva_messages::near::distance;
 use polars_arrays_flat::byte_rows::ByteRows;
 use std::alloc::Global;
 
-/// The bytes that commonly separate fields. A file's only column is searched for them.
+/// The bytes that commonly separate fields. If a file has a single column, the column's name is
+/// searched for them.
 const DELIMITERS: &[u8] = b",;\t|\x01";
 
 /// Returns a list of the first `MOST_NAMES` of `names`, followed by the number of the remaining

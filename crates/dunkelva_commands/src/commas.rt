@@ -1,4 +1,5 @@
-//! A warning about numbers that are written with a comma, which are compared as texts.
+//! A warning about numbers that are written with a comma. These are compared as texts even where
+//! numbers are compared by value.
 
 use csv::ByteRecord;
 use diff_csv::source::Source;
@@ -23,7 +24,7 @@ fn has_comma(cell: &[u8]) -> bool {
     is_number && first && last && digits.contains(&b',')
 }
 
-/// Returns whether numbers in the column named `name` are compared by value.
+/// Returns whether `options` demand that numbers in the column named `name` are compared by value.
 fn has_numbers(name: &[u8], options: &Options<'_>) -> bool {
     let has_tolerance = options
         .tolerances
@@ -37,10 +38,10 @@ fn has_numbers(name: &[u8], options: &Options<'_>) -> bool {
     is_compared && (is_number || has_tolerance)
 }
 
-/// Returns the number and the column for the warning, as `"12,50" in column "price"`: those of the
-/// first number with a comma in `row`, if numbers in its column are compared by value. `names` are
-/// the names of the columns. Returns `None` if there is none, if the name is not UTF-8, or if an
-/// allocation fails.
+/// Searches `row` for a number with a comma in a column whose numbers are compared by value.
+/// Returns the first such number and its column, as `"12,50" in column "price"`. `names` are the
+/// names of the columns. Returns `None` if there is none, if a cell is missing, if the column's
+/// name is not UTF-8, or if an allocation fails.
 fn found_in<N: ByteRows>(
     alloc: Global,
     names: &N,
@@ -58,9 +59,9 @@ fn found_in<N: ByteRows>(
     None
 }
 
-/// Reads the first rows of the regular file `file` again, and returns the first number with a comma
-/// as `found_in` does. Returns `None` if there is none, if the file can't be read again, or if an
-/// allocation fails.
+/// Reads the first `MOST_ROWS` rows of the regular file `file` again, and returns the number and
+/// the column that `found_in` finds in the first row that has any. Returns `None` if no row has
+/// any, if the file can't be read again, or if an allocation fails.
 fn found(rt: &HostRuntime, file: &str, options: &Options<'_>) -> Option<String> {
     let alloc = rt.alloc();
     let source = Source::open(alloc, open_again(rt, file)?, options.csv).ok()?;
@@ -76,9 +77,9 @@ fn found(rt: &HostRuntime, file: &str, options: &Options<'_>) -> Option<String> 
     None
 }
 
-/// Prints a warning on standard error if numbers are compared by value, and one of the first rows
-/// of `left` or `right` has a number with a comma in such a column: it is compared as a text. A
-/// file that can't be read again is not searched.
+/// Prints a warning on standard error if one of the first rows of `left` or `right` has a number
+/// with a comma in a column whose numbers are compared by value, since this number is compared as a
+/// text. Prints only one warning. A file that can't be read again is not searched.
 pub(crate) fn warn_of_commas(rt: &HostRuntime, left: &str, right: &str, options: &Options<'_>) {
     if options.numbers.is_none() && options.tolerances.is_none() {
         return;

@@ -46,7 +46,7 @@ fn parts_of(alloc: Global, document: &Value<'_>, paths: &[Path]) -> Option<Strin
 
 /// Reads the regular file `file` again, and returns the key of the document in the line `line`, as
 /// text. The first line is 1. `paths` are the paths of the key. Returns `None` if the line can't be
-/// read again or is not a JSON document, or if `parts_of` returns `None`.
+/// read again or is not JSON, or if `parts_of` returns `None`.
 pub(crate) fn document_key(
     rt: &HostRuntime,
     file: &str,

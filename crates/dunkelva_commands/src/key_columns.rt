@@ -77,8 +77,8 @@ fn in_shell(alloc: Global, delimiter: u8) -> Option<String> {
 }
 
 /// Returns a shell command that sorts lines by the fields at the indices `columns`, from 0.
-/// `delimiter` separates the fields. Returns `None` if it can't be written in a shell command
-/// (`in_shell`), or if an allocation fails.
+/// `delimiter` separates the fields. Returns `None` if `delimiter` can't be written in a shell
+/// command (`in_shell`), or if an allocation fails.
 fn sort_by(alloc: Global, columns: &[usize], delimiter: u8) -> Option<String> {
     let between = in_shell(alloc, delimiter)?;
     let mut command = format!(in alloc; "LC_ALL=C sort -t{between}").ok()?;

@@ -1,4 +1,8 @@
 //! The commands of the program, and the exit status of each.
+//!
+//! The exit status is 1 if a comparison found a difference, and 2 after an error or if standard
+//! output is a closed pipe. Otherwise it is 0. `run` prints the errors that the other functions
+//! return.
 
 use crate::commas::warn_of_commas;
 use crate::outputs::refuse_own_target;
@@ -37,10 +41,10 @@ const DIFFERENT: u8 = 1;
 /// The exit status if the program fails, for example because files can't be compared.
 const TROUBLE: u8 = 2;
 
-/// Compares the two CSV files `files` with `options`; `matches` says whether they are sorted by key.
-/// Writes the report to `target`, and returns the exit status. Warns of a repeated key, unless the
-/// files are sorted or keys have to be unique, and of numbers with a comma. Fails if an option can't
-/// be given with `--sorted`, or if the comparison fails.
+/// Compares the two CSV files `files` with `options`; `matches` says whether they are sorted by
+/// key. Writes the report to `target`, and returns the exit status. Unless the files are sorted,
+/// warns of a repeated key (if keys need not be unique) and, if there is a difference, of numbers
+/// with a comma. Fails if an option can't be given with `--sorted`, or if the comparison fails.
 fn compare_by(
     rt: &HostRuntime,
     matches: &ArgMatches<'_>,
@@ -215,7 +219,8 @@ fn diff(rt: &HostRuntime, matches: &ArgMatches<'_>, config: &Config) -> Result<u
 }
 
 /// Runs `dunkelva schema`: prints the schema of the file given as argument, or of standard input,
-/// and returns the exit status.
+/// and returns the exit status. Fails if the file begins like a known format that is not UTF-8
+/// text, or if `show_schema` fails.
 fn print_schema(rt: &HostRuntime, matches: &ArgMatches<'_>) -> Result<u8> {
     let file = matches.get_str("file").unwrap_or("-");
     refuse_not_text(rt, file)?;
@@ -259,7 +264,7 @@ fn print_refusal(rt: &HostRuntime, words: &[&str], error: &clap::Error) -> Resul
 
 /// Parses the arguments `words`, runs the command they give with the settings `config` of the
 /// config file, and returns the exit status. If `words` can't be parsed, or ask for help or the
-/// version, prints the error or the text instead.
+/// version, prints the error or the text instead. Fails if the command fails.
 fn run_command(rt: &HostRuntime, words: &[&str], config: &Config) -> Result<u8> {
     let command = command(rt.alloc())?;
     match command.try_get_matches_from(words) {
@@ -269,7 +274,8 @@ fn run_command(rt: &HostRuntime, words: &[&str], config: &Config) -> Result<u8> 
 }
 
 /// Runs the command line `words` together with the options in `config`, the settings of the config
-/// file. Returns the exit status. An error about an option that the file sets names the file.
+/// file. Returns the exit status. Fails if the command fails. An error about an option that the
+/// file sets names the file.
 fn run_set(rt: &HostRuntime, words: &[String], config: &Config) -> Result<u8> {
     let all = joined(rt.alloc(), words, &config.words)?;
     match run_command(rt, &all, config) {
@@ -278,8 +284,9 @@ fn run_set(rt: &HostRuntime, words: &[String], config: &Config) -> Result<u8> {
     }
 }
 
-/// Reads the config file that the command line `words` names, if there is one, and runs the
-/// command. Returns the exit status.
+/// Reads the config file that the command line `words` names, if it names one, and runs the
+/// command. Returns the exit status. Fails if the config file is invalid or can't be read, or if
+/// the command fails.
 fn run_given(rt: &HostRuntime, words: &[String]) -> Result<u8> {
     let config = config_for(rt, words)?;
     run_set(rt, words, &config)

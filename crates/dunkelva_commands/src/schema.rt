@@ -72,9 +72,10 @@ fn schema_text(
     }
 }
 
-/// Prints the schema of the file given as argument, or of standard input, and returns the exit
-/// status. Fails if standard output is this file, if an option does not fit the kind of the file,
-/// or if the schema can't be read.
+/// Prints the schema of the file given as argument, or of standard input. Returns the exit status:
+/// 0, or 2 if standard output is a closed pipe. Fails if standard output is this file, if the kind
+/// of the file is unclear (`hold_documents`), if an option does not fit this kind or is invalid, or
+/// if the schema can't be read or printed.
 pub(crate) fn show_schema(rt: &HostRuntime, matches: &ArgMatches<'_>) -> Result<u8> {
     let file = matches.get_str("file").unwrap_or("-");
     refuse_own_output(rt, &[file])?;

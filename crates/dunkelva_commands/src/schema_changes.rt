@@ -73,7 +73,8 @@ fn status_of(counts: SchemaCounts) -> u8 {
 }
 
 /// Prints the differences between the schemas `before` and `after` of two tables in the format
-/// `form`, and returns the exit status. `files` are the names of the tables' files.
+/// `form`, and returns the exit status. `files` are the names of the tables' files. Fails if the
+/// output fails, except at a closed pipe, which gives the status 2.
 fn print_columns(
     rt: &HostRuntime,
     form: Form,
@@ -92,7 +93,8 @@ fn print_columns(
 
 /// Compares the schemas of the columns of the CSV files `left` and `right`, prints the differences,
 /// and returns the exit status. `has_stdin` says whether one of the files is standard input. Fails
-/// if an option is given that is only for documents, or if a schema can't be read.
+/// if an option is given that is only for documents, if the delimiter is invalid or unclear
+/// (`csv_options`), or if a schema can't be read or the differences can't be printed.
 fn compare_columns(
     rt: &HostRuntime,
     matches: &ArgMatches<'_>,
@@ -109,7 +111,8 @@ fn compare_columns(
 }
 
 /// Prints the differences between the schemas `before` and `after` of two files of documents in the
-/// format `form`, and returns the exit status. `files` are the names of the files.
+/// format `form`, and returns the exit status. `files` are the names of the files. Fails if the
+/// output fails, except at a closed pipe, which gives the status 2.
 fn print_paths(
     rt: &HostRuntime,
     form: Form,
@@ -127,7 +130,8 @@ fn print_paths(
 
 /// Compares the schemas of the paths in the files of documents `left` and `right`, prints the
 /// differences, and returns the exit status. `has_stdin` says whether one of the files is standard
-/// input. Fails if an option is given that is only for CSV files, or if a schema can't be read.
+/// input. Fails if an option is given that is only for CSV files, or if a schema can't be read or
+/// the differences can't be printed.
 fn compare_paths(
     rt: &HostRuntime,
     matches: &ArgMatches<'_>,
@@ -143,9 +147,10 @@ fn compare_paths(
 }
 
 /// Compares the schemas of the files `left` and `right`, prints the differences, and returns the
-/// exit status. Fails if an option does not go with `--schema-only` or with the kind of the files,
-/// if both files are standard input, if standard output is one of the files, or if a schema can't
-/// be read.
+/// exit status. Fails if an option is invalid or does not go with `--schema-only` or the kind of
+/// the files, if both files are standard input, if standard output is one of the files, if their
+/// kind is unclear (`hold_documents`), or if a schema can't be read or the differences can't be
+/// printed.
 pub(crate) fn compare_schemas(
     rt: &HostRuntime,
     matches: &ArgMatches<'_>,

@@ -87,9 +87,9 @@ impl Task<'_> {
     }
 }
 
-/// Prints advice on standard error, if `ending` is `Different` and standard error is a terminal: to
-/// give `--key`, if no key is given for `task`, and to give `--limit 0`, if the report for `target`
-/// is JSON lines that may not have all differences.
+/// Prints advice on standard error if `ending` is `Different` and standard error is a terminal. If
+/// `task` has no key, advises to give `--key`. If the report is printed as JSON lines, which may
+/// lack differences because of a limit, advises to give `--limit 0`.
 fn advise(rt: &HostRuntime, task: Task<'_>, target: Target<'_>, ending: Ending) {
     let Ending::Different = ending else {
         return;
@@ -122,8 +122,8 @@ fn counted<'a>(
     }
 }
 
-/// Returns the result of a comparison of which the report could not be written because of `cause`.
-/// If `cause` is a closed pipe, returns `Unread`. Fails for all other causes.
+/// Returns the result of a comparison whose report could not be written to standard output because
+/// of `cause`. If `cause` is a closed pipe, returns `Unread`. Fails for all other causes.
 fn unwritten(cause: io::Error) -> Result<Ending> {
     if cause.kind() == ErrorKind::BrokenPipe {
         return Ok(Ending::Unread);
@@ -131,8 +131,8 @@ fn unwritten(cause: io::Error) -> Result<Ending> {
     Err(trouble!("{cause}").context("standard output"))
 }
 
-/// Converts `came_to`, the result of a comparison of the tables named `names`. A closed pipe is not
-/// an error (`unwritten`). Any other error becomes the error to print.
+/// Converts `came_to`, the result of a comparison of the CSV files named `names` with `options`, to
+/// an `Ending`. A closed pipe gives `Unread`. Any other error becomes the error to print.
 fn tables_ending(
     rt: &HostRuntime,
     came_to: Result<Outcome, RunError>,
@@ -146,8 +146,9 @@ fn tables_ending(
     }
 }
 
-/// Converts `came_to`, the result of a comparison of the sorted tables named `names`. A closed pipe
-/// is not an error (`unwritten`). Any other error becomes the error to print.
+/// Converts `came_to`, the result of a comparison of the sorted CSV files named `names` with
+/// `options`, to an `Ending`. A closed pipe gives `Unread`. Any other error becomes the error to
+/// print.
 fn sorted_ending(
     rt: &HostRuntime,
     came_to: Result<Outcome, SortedError>,
@@ -161,8 +162,9 @@ fn sorted_ending(
     }
 }
 
-/// Converts `came_to`, the result of a comparison of the files of documents named `names`. A closed
-/// pipe is not an error (`unwritten`). Any other error becomes the error to print.
+/// Converts `came_to`, the result of a comparison of the files of documents named `names` with
+/// `options`, to an `Ending`. A closed pipe gives `Unread`. Any other error becomes the error to
+/// print.
 fn documents_ending(
     rt: &HostRuntime,
     came_to: Result<Outcome, DocumentError>,
@@ -213,7 +215,7 @@ struct Made {
 }
 
 /// Runs the comparison `task` of the inputs `left` and `right`, which have the names `names`, and
-/// returns the report and the result.
+/// returns the report and the result. Fails if the comparison fails.
 fn report_of(
     rt: &HostRuntime,
     left: Source,
@@ -228,7 +230,8 @@ fn report_of(
 }
 
 /// Runs the comparison `task` of the inputs `left` and `right`, which have the names `names`, and
-/// prints the report on standard output while it is made. Returns the result.
+/// prints the report on standard output while it is made. Returns the result, or the error to
+/// print.
 fn print_report(
     rt: &HostRuntime,
     left: Source,
@@ -273,8 +276,8 @@ fn write_page(rt: &HostRuntime, page: &[u8], path: &str, ending: Ending) -> Resu
 }
 
 /// Converts `report` to the form that `target` needs, and appends the result to `text`. For
-/// Markdown, aligned columns and pages, `report` has JSON lines. `names` are the names of the two
-/// inputs.
+/// Markdown, aligned columns and pages, `report` has to consist of JSON lines. `names` are the
+/// names of the two inputs.
 fn push_form(
     alloc: Global,
     text: &mut Vec<u8>,
@@ -300,7 +303,8 @@ fn push_form(
 }
 
 /// Converts the report in `made` to the form that `target` needs, and writes it to `target`.
-/// Returns the result of the comparison, or `Unread` if standard output is a closed pipe.
+/// Returns the result of the comparison, or `Unread` if standard output is a closed pipe. Fails if
+/// the report can't be converted or written.
 fn show(
     rt: &HostRuntime,
     made: &Made,
@@ -318,7 +322,8 @@ fn show(
 
 /// Runs the comparison `task` of the inputs `left` and `right`, which have the names `names`.
 /// Writes the report to `target`, and returns the result. For `Target::Output` the report is
-/// written while it is made, and for other targets at the end.
+/// written while it is made, and for other targets at the end. Fails if the comparison fails or the
+/// report can't be written.
 fn compared(
     rt: &HostRuntime,
     left: Source,
@@ -337,7 +342,7 @@ fn compared(
 
 /// Runs the comparison `task` of the inputs `left` and `right`, which have the names `names`.
 /// Writes the report to `target`, shows the progress meanwhile, and prints advice at the end
-/// (`advise`). Returns the exit status.
+/// (`advise`). Returns the exit status. Fails as `compared` does.
 fn compare(
     rt: &HostRuntime,
     left: Source,
@@ -377,8 +382,8 @@ pub(crate) fn open_for(
 
 /// Opens the inputs named `left` and `right`, runs the comparison `task`, writes the report to
 /// `target`, and returns the exit status. The name `-` is standard input. Fails if both inputs are
-/// standard input, if an input can't be opened, or if the comparison fails. Unless
-/// `may_be_documents` is true, it fails if an input begins like a JSON document.
+/// standard input, if an input can't be opened, or if the comparison fails. Also fails if an input
+/// begins like a JSON document, unless `may_be_documents` is true.
 pub(crate) fn compare_named(
     rt: &HostRuntime,
     left: &str,
@@ -400,16 +405,17 @@ pub(crate) fn compare_named(
     }
 }
 
-/// Returns whether a comparison of the files named `left` and `right` can warn of a repeated key:
-/// whether both files can be read a second time.
+/// Returns whether both files, `left` and `right`, can be read a second time, so that a comparison
+/// can warn of a repeated key.
 fn can_repeat(rt: &HostRuntime, left: &str, right: &str) -> bool {
     open_again(rt, left).is_some() && open_again(rt, right).is_some()
 }
 
-/// Compares the files named `left` and `right` as `compare_named` does with `task`. If both can be
-/// read a second time, warns on standard error of a repeated key: `unique`, the same comparison
-/// with unique keys, is run first, and if it finds a repeated key, `task` is run, and the warning
-/// names the key. Returns the exit status.
+/// Compares the files named `left` and `right` with `task`, writes the report to `target`, and
+/// returns the exit status. Warns on standard error of a repeated key, if both files can be read a
+/// second time. To find such a key, runs `unique` first, which is `task` except that a repeated key
+/// is an error. Only after this error, or if a file can't be read twice, `task` itself is run.
+/// Fails as `compare_named` does.
 pub(crate) fn compare_watching(
     rt: &HostRuntime,
     (left, right): (&str, &str),

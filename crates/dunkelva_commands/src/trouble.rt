@@ -1,4 +1,4 @@
-//! The errors to print if files can't be compared.
+//! The errors to print if files can't be compared. Lines and columns of a text count from 1.
 
 use crate::columns::{column_name, columns_hint};
 use crate::document_key::document_key;
@@ -93,7 +93,7 @@ fn is_empty(rt: &HostRuntime, file: &str) -> bool {
 const UNSEEN: &str = "its columns are shown only for a file, and JSON lines need --input ndjson";
 
 /// Returns the error for `file`, which lacks the key column at the index `key` of the keys in
-/// `options`. A hint says what is wrong with the file, or lists its columns.
+/// `options`. Usually a hint says what is wrong with the file, or lists its columns.
 fn no_key(rt: &HostRuntime, file: &str, key: usize, options: &Options<'_>) -> Error {
     let Some(name) = options.choice.keys.get(key) else {
         return trouble!("a key column is missing");
@@ -297,7 +297,8 @@ fn lesser_key(rt: &HostRuntime, file: &str, line: u64, options: &Options<'_>) ->
 }
 
 /// Returns the error to print for `error`, which occurred in a comparison of the sorted tables
-/// named `names`. For a key that falls or comes twice, the returned error names the file.
+/// named `names`. For a row whose key is less than the key before it, or comes twice, the returned
+/// error names the file.
 pub(crate) fn sorted_trouble(
     rt: &HostRuntime,
     error: &SortedError,

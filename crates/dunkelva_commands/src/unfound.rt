@@ -1,10 +1,12 @@
-//! Errors and warnings about paths in options at which no document has a part.
+//! Errors and warnings about paths in options at which no document has a part. A part is a value
+//! inside a document, and a path consists of steps, such as the name of a member.
 //!
 //! If no document has a part at the first step of any path of `--only`, no difference is found,
 //! whatever the documents are: such a comparison is refused. A misspelt path of `--ignore` or of a
 //! tolerance has no effect. With `--no-key-is-null`, a misspelt path of `--key` makes this part of
 //! the key null in all documents. All paths at which no document has a part are reported on
-//! standard error after the comparison. To find paths, the files are read once more.
+//! standard error after the comparison. To find parts, the files are read again: before the
+//! comparison for the refusal, and after it for the warnings.
 
 use clap::ArgMatches;
 use dunkelva_messages::error::{Error, Result};
@@ -25,7 +27,7 @@ use std::io::{BufRead, BufReader};
 /// The name of the option that selects the parts to compare.
 const ONLY: &str = "only";
 
-/// What to look for in a document: parts that fit a pattern, parts at the pattern's first step
+/// A thing to look for in a document: parts that fit a pattern, parts at the pattern's first step
 /// alone, or the part at a path.
 #[derive(Clone, Copy)]
 enum Named<'p> {
@@ -48,7 +50,8 @@ struct Sought<'a, 'p> {
 #[derive(Drop)]
 struct Search<'a, 'p> {
     sought: Vec<Sought<'a, 'p>>,
-    /// `true` if the search is over once one of the paths is found, and not only once all are.
+    /// `true` if the search is over once one of the paths is found. If `false`, it is over once all
+    /// are found.
     needs_one: bool,
     /// `true` if a line with a JSON object was read.
     has_documents: bool,
@@ -404,10 +407,10 @@ fn unknown_only(
     Some(trouble!("--{ONLY}: no document has a part at {}", quoted(path)))
 }
 
-/// Fails if `--only` is given, the files `left` and `right` have documents, and none of these has a
-/// part at the first step of one of its paths, so that nothing would be compared. Does not fail if
-/// a file can't be read again, since the part may be in that file. `rules` is parsed from the
-/// options.
+/// Fails if no document of the files `left` and `right` has a part at the first step of any path of
+/// `--only`, so that nothing would be compared. Does not fail if `--only` is not given, if there
+/// are no documents, or if a file can't be read again, since the part may be in that file. `rules`
+/// is parsed from the options.
 pub(crate) fn refuse_unknown_only(
     rt: &HostRuntime,
     matches: &ArgMatches<'_>,

@@ -31,7 +31,8 @@ pub enum About {
     Records,
     /// A record has another number of fields than the first one.
     Lengths(Lengths),
-    /// A line is not a document. The fault is at this column; the first line and column are 1.
+    /// A line is not a document. The fault is at this column, which counts characters; the first
+    /// line and column are 1.
     Line { line: u64, column: u64 },
     /// Two rows or documents of the file have the same key.
     OneKey,
@@ -97,8 +98,8 @@ impl Error {
         self.about
     }
 
-    /// Returns the part of the message before the first colon and blank, or all of it if it has
-    /// none. This part names the options that the error is about.
+    /// Returns the message up to its first colon that a blank follows, or the whole message if it
+    /// has no such colon. In an error about options, this part names them.
     pub fn subject(&self) -> &str {
         let message = self.message.as_str();
         match message.split_once(": ") {

@@ -97,9 +97,9 @@ impl Read for Source {
     }
 }
 
-/// Opens the file `name`, or fails if it can't be opened. `has_stdin` is true if the other input is
-/// standard input. If the file gets descriptor 0 then, standard input is closed, and the call
-/// fails.
+/// Opens the file `name`. `has_stdin` is true if the other input is standard input. Fails if the
+/// file can't be opened. Also fails if `has_stdin` is true and the file gets descriptor 0, since
+/// standard input is closed then.
 fn open_file(rt: &HostRuntime, name: &str, has_stdin: bool) -> Result<fs::File> {
     match fs::open(rt, name) {
         Ok(file) => {
@@ -127,8 +127,8 @@ pub fn open(rt: &HostRuntime, name: &str, has_stdin: bool) -> Result<Source> {
     })
 }
 
-/// Opens again the input `name`, which was read before. Returns `None` unless it is a regular file
-/// that can be opened.
+/// Opens the regular file `name` anew, to read it from its beginning, apart from the comparison.
+/// Returns `None` if `name` is `-`, if it names no regular file, or if the file can't be opened.
 pub fn open_again(rt: &HostRuntime, name: &str) -> Option<Source> {
     // Standard input can't be read again. A file named `-` is not opened either.
     if name == "-" {

@@ -71,8 +71,8 @@ const DELIMITERS: [(char, &str); 5] = [
     ('\u{1}', "is the byte 1 the --delimiter? It is \\x01"),
 ];
 
-/// Returns the first line of the regular file `file`, or `None` if it can't be read again or is not
-/// UTF-8.
+/// Returns the first line of the regular file `file`, without the line feed. Returns `None` if the
+/// line can't be read again or is not UTF-8.
 fn first_line(rt: &HostRuntime, file: &str) -> Option<String> {
     String::from_utf8(line_bytes(rt, file, 1)?).ok()
 }
@@ -95,9 +95,9 @@ pub fn first_line_hint(rt: &HostRuntime, file: &str) -> Option<&'static str> {
     names_delimiter(&first_line(rt, file)?).then_some(NO_RECORD)
 }
 
-/// Returns a hint for the regular file `file`. Its first record has to have a single field. The
-/// hint asks whether a character that is in the first line is the delimiter. Returns `None` if the
-/// line has none of the characters in `DELIMITERS`, or can't be read again.
+/// Returns a hint for the regular file `file`, whose first record has to have a single field. The
+/// hint asks whether a character in the first line is the delimiter. Returns `None` if the line has
+/// none of the characters in `DELIMITERS`, or can't be read again.
 fn delimiter_hint(rt: &HostRuntime, file: &str) -> Option<&'static str> {
     let first = first_line(rt, file)?;
     for (delimiter, question) in DELIMITERS {
@@ -119,8 +119,8 @@ fn fields_hint(delimiter: u8) -> &'static str {
     }
 }
 
-/// Returns a hint for a record of the regular file `file` that has too many fields. The hint
-/// depends on the line at which the record begins, `lengths.line`, and on the numbers of fields.
+/// Returns a hint for a record with too many fields in the regular file `file`. The hint depends on
+/// the line at which the record begins, `lengths.line`, and on the numbers of fields.
 fn record_hint(rt: &HostRuntime, file: &str, lengths: Lengths) -> &'static str {
     let Some(bytes) = line_bytes(rt, file, lengths.line) else {
         return fields_hint(lengths.delimiter);

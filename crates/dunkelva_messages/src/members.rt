@@ -18,8 +18,8 @@ fn list_of(alloc: Global, members: &[(&str, Value<'_>)]) -> Result<String> {
     Ok(list)
 }
 
-/// Returns how much two names differ, and `None` if they are not similar: 0 if they are equal, and
-/// else one more than `near::distance`.
+/// Returns 0 if two names are equal, and else one more than `near::distance`. Returns `None` if the
+/// names are not similar.
 fn distance(one: &str, other: &str) -> Option<usize> {
     if one == other {
         return Some(0);

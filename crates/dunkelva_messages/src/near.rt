@@ -14,8 +14,8 @@ fn folded(byte: u8) -> u8 {
     }
 }
 
-/// Returns whether there are two bytes and they are equal (`folded`): the case of ASCII letters
-/// does not count, and a hyphen and an underscore are equal.
+/// Returns whether both bytes are given and equal. The case of ASCII letters does not count, and a
+/// hyphen and an underscore are equal.
 fn are_alike(one: Option<&u8>, other: Option<&u8>) -> bool {
     match (one, other) {
         (Some(one), Some(other)) => folded(*one) == folded(*other),
@@ -58,11 +58,12 @@ fn differ_by_case(one: &[u8], other: &[u8]) -> bool {
     one.len() == other.len() && common_start(one, other) == one.len()
 }
 
-/// Returns the number of bytes that are left of the longer of two names without the longest
-/// beginning and the longest end that both have in common, and `None` if the names are not similar.
-/// Similar names have at most two such bytes, and at least two bytes in common. The case of ASCII
-/// letters does not count, and a hyphen and an underscore are equal: names that differ only so give
-/// 0.
+/// Compares two names without their longest common beginning and, in the rest, their longest common
+/// end. Returns the number of bytes that are left of the longer name. Returns `None` if the names
+/// are not similar: more than two bytes are left, or fewer than two bytes are common.
+///
+/// The case of ASCII letters does not count, and a hyphen and an underscore are equal. Names that
+/// differ only so, or not at all, give 0, however short they are.
 pub fn distance(one: &[u8], other: &[u8]) -> Option<usize> {
     if differ_by_case(one, other) {
         return Some(0);

@@ -18,8 +18,8 @@ use std::alloc::Global;
 pub struct Keys<'a> {
     /// The parsed paths.
     pub paths: Vec<Path>,
-    /// The texts of the paths, in the same order, as they are written on the command line. Reports
-    /// use these texts as names.
+    /// The texts of the paths, in the same order, as `--key` gives them. Reports use these texts as
+    /// names.
     pub names: Vec<&'a [u8]>,
     ghost paired: { length names.items ≡ length paths.items },
 }

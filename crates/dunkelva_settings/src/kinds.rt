@@ -58,9 +58,10 @@ fn names_table(name: &str) -> bool {
     has_extension(name, ".csv") || has_extension(name, ".tsv")
 }
 
-/// Fails if the name `documents` says that the file has JSON documents, and the file `other` is a
-/// CSV file by its name, or begins like a known format that is not UTF-8 text. If the name `other`
-/// also says that the file has JSON documents, `other` is accepted without being read.
+/// Checks the file `other` if it is to be compared with JSON documents: the name `documents` says
+/// that its file has documents, and the name `other` does not. Fails if the file `other` begins
+/// like a known format that is not UTF-8 text, such as gzip, or is a CSV file by its name. In all
+/// other cases accepts `other` unread.
 fn refuse_beside(rt: &HostRuntime, documents: &str, other: &str) -> Result<()> {
     if !names_documents(documents) || names_documents(other) {
         return Ok(());
@@ -75,9 +76,9 @@ fn refuse_beside(rt: &HostRuntime, documents: &str, other: &str) -> Result<()> {
     Ok(())
 }
 
-/// Fails if one of the files `left` and `right` has JSON documents by its name, and the other is a
-/// CSV file by its name, or begins like a known format that is not UTF-8 text. If `--input` is
-/// given, nothing is refused.
+/// Fails if only one of the files `left` and `right` has JSON documents by its name, and the other
+/// file is a CSV file by its name or begins like a known format that is not UTF-8 text, such as
+/// gzip. If `--input` is given, nothing is refused.
 pub fn refuse_two_formats(
     rt: &HostRuntime,
     matches: &ArgMatches<'_>,
@@ -94,8 +95,9 @@ pub fn refuse_two_formats(
 /// Returns whether the files `left` and `right` have documents instead of tables. If `--input` is
 /// given, its value decides. Otherwise the file names decide: names of files of documents end with
 /// `.ndjson` or `.jsonl`. Standard input and a pipe of the shell have the kind of the other file.
-/// Fails if `--input` is not given and a name ends with `.json`, or only one of two file names ends
-/// with `.ndjson` or `.jsonl`.
+///
+/// Fails only if `--input` is not given: if a name ends with `.json`, or if one of two file names
+/// ends with `.ndjson` or `.jsonl` and the other does not.
 pub fn hold_documents(
     rt: &HostRuntime,
     matches: &ArgMatches<'_>,

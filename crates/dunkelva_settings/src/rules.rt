@@ -16,10 +16,11 @@ use json_tolerances::error::BoundError;
 use json_tolerances::order::is_less;
 use std::alloc::Global;
 
-/// The name of the option for absolute tolerances, whose bound is a number.
+/// The name of the option for absolute tolerances. Two numbers may differ by at most the bound.
 pub const ABSOLUTE: &str = "tolerance";
 
-/// The name of the option for relative tolerances, whose bound is a fraction of the larger number.
+/// The name of the option for relative tolerances. Two numbers may differ by at most the bound
+/// times the larger of their absolute values.
 pub const RELATIVE: &str = "relative-tolerance";
 
 /// Returns the error to print for `word`, a text in the option named `option` that could not be
@@ -34,7 +35,8 @@ pub(crate) fn no_path(error: PathError, option: &str, example: &str, word: &str)
     }
 }
 
-/// Parses `word`, a text in the option named `option`, as a pattern. Fails if it is not a pattern.
+/// Parses `word`, a text in the option named `option`, as a pattern: a path that may have `[]`, for
+/// any item. Fails if `word` is not a pattern.
 fn pattern_of(alloc: Global, option: &str, word: &str) -> Result<Pattern> {
     match parse_pattern(alloc, word) {
         Ok(pattern) => Ok(pattern),

@@ -33,8 +33,8 @@ pub fn refuse_of_documents(matches: &ArgMatches<'_>) -> Result<()> {
     Ok(())
 }
 
-/// Returns whether the option named `option`, which takes a value, is given on the command line. A
-/// default value does not count.
+/// Returns whether the option named `option`, which takes a value, is given on the command line or
+/// in the config file. A default value does not count.
 fn has_value(matches: &ArgMatches<'_>, option: &str) -> bool {
     matches.value_source(option) == Some(ValueSource::CommandLine)
 }

@@ -10,8 +10,8 @@ use dunkelva_messages::trouble;
 use dunkelva_options::lists::split_lists;
 use std::alloc::Global;
 
-/// Fails if `column` is one of the key columns `keys`, since keys are compared exactly. The error
-/// names `option`, the option that gives a tolerance for the column.
+/// Fails if `column` is one of the key columns `keys`, since rows are matched without tolerances.
+/// The error names `option`, the option that gives a tolerance for the column.
 fn refuse_key(option: &str, column: &str, keys: &[&[u8]]) -> Result<()> {
     if keys.contains(&column.as_bytes()) {
         return Err(trouble!(

@@ -166,12 +166,12 @@ fn number_of(matches: &ArgMatches<'_>, option: &str, takes: &str) -> Result<Opti
 /// The destination and the form of a report.
 #[derive(Clone, Copy)]
 pub enum Target<'a> {
-    /// Standard output.
+    /// Standard output, as text or as JSON lines.
     Output,
     /// Standard output, as Markdown.
     Markdown,
-    /// Standard output, in aligned columns. The number is the greatest width of a line, and the
-    /// flag is `true` if there are colours.
+    /// Standard output, in aligned columns. The number is the greatest width of a line, in columns
+    /// of a terminal. The flag is `true` if there are colours.
     Aligned(usize, bool),
     /// The file of this name, as an HTML page.
     Page(&'a str),
@@ -180,11 +180,11 @@ pub enum Target<'a> {
 /// The greatest number of differences in an HTML page if `--limit` is not given.
 const MOST_IN_PAGE: usize = 10_000;
 
-/// The least value of `--width`.
+/// The least value of `--width`, in columns of a terminal.
 const LEAST_WIDTH: usize = 40;
 
-/// Returns the value of `--width`, the greatest width of a line, or `None` if the option is not
-/// given. Fails if the value is not an integer, or is less than 40.
+/// Returns the value of `--width`, the greatest width of a line in columns of a terminal, or `None`
+/// if the option is not given. Fails if the value is not an integer, or is less than 40.
 fn width_of(matches: &ArgMatches<'_>) -> Result<Option<usize>> {
     let width = number_of(matches, "width", "a whole number of columns such as 100")?;
     if let Some(width) = width
@@ -214,8 +214,9 @@ pub fn target_of<'a>(rt: &HostRuntime, matches: &ArgMatches<'a>) -> Result<Targe
 }
 
 /// Returns the greatest number of differences to print: 0 with `--summary`, and else the value of
-/// `--limit`, where 0 stands for all differences. Without `--limit` the number is 10,000 for an
-/// HTML page, and else 20. Fails if the value of `--limit` is not an integer from 0 on.
+/// `--limit`. For `--limit 0`, which asks for all differences, returns `usize::MAX`. Without
+/// `--limit` the number is 10,000 for an HTML page, and else 20. Fails if the value of `--limit` is
+/// not an integer from 0 on.
 pub fn limit_of(matches: &ArgMatches<'_>) -> Result<usize> {
     let limit = number_of(matches, "limit", "a whole number such as 100, or 0 for all")?;
     if matches.get_flag("summary") {

@@ -23,7 +23,8 @@ impl Calls {
     }
 
     /// Counts a call that succeeds. Returns the error `Interrupted` if the call is to be
-    /// interrupted, or otherwise `BrokenPipe` if no call is left.
+    /// interrupted, and otherwise the error `BrokenPipe` if no call is left. A call that fails is
+    /// not counted.
     pub fn count(&mut self) -> io::Result<()> {
         if self.interrupting && !self.interrupted {
             self.interrupted = true;

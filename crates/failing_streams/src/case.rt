@@ -1,4 +1,5 @@
-//! A case: an input or the demo, and the number of successful reads and writes.
+//! A case: an input or the demo of `polars_tables_lines`, and the numbers of reads and writes that
+//! succeed.
 
 use crate::manner::Manner;
 use crate::slow_reader::SlowReader;
@@ -18,8 +19,9 @@ pub fn answer(alloc: Global, line: &str) -> Result<String> {
     }
 }
 
-/// Runs the lines of an input, and returns the outcome and the bytes that the writer accepted, as
-/// text. `line` has the number of reads, the number of writes, and the input. Fails if it does not.
+/// Runs the commands of an input, and returns the outcome and the bytes that the writer accepted,
+/// as text. `line` is `READS WRITES BYTES` or `READS WRITES BYTES TIMES PIECE`. Fails if `line` has
+/// another form.
 fn answer_input(alloc: Global, line: &str, manner: Manner) -> Result<String> {
     let (reads, rest) = line.split_once(' ').context("no reads")?;
     let (writes, bytes) = rest.split_once(' ').context("no writes")?;
@@ -61,8 +63,9 @@ fn push_repeated(input: &mut Vec<u8>, times: u32, piece: &[u8]) -> Result<()> {
     Ok(())
 }
 
-/// Runs the lines of `input`, and returns the outcome and the bytes that the writer accepted, as
-/// text. `reads` and `writes` are the numbers of calls that succeed. Fails if one is not a number.
+/// Runs the commands of `input`, and returns the outcome and the bytes that the writer accepted, as
+/// text. `reads` and `writes` are the numbers of calls that succeed. Fails if one of them is not a
+/// number.
 fn answer_run(
     alloc: Global,
     input: &[u8],
@@ -86,8 +89,8 @@ fn answer_demo(alloc: Global, writes: &str, manner: Manner) -> Result<String> {
     write_outcome(alloc, demo_text(alloc, &outcome), writer.taken())
 }
 
-/// Returns the text `said`, a space, `x`, and the bytes of `taken` in hexadecimal. If `said` is an
-/// error, returns it.
+/// Returns the outcome `said`, ` x`, and `taken`, the bytes that the writer accepted, in
+/// hexadecimal. If `said` is an error, returns this error.
 fn write_outcome(alloc: Global, said: Result<String>, taken: &[u8]) -> Result<String> {
     let said = said?;
     let taken = hex::encode(alloc, taken)?;

@@ -9,13 +9,14 @@
 //! may come before a line, in this order:
 //!
 //! - `interrupted`: each read and each write is interrupted once before it succeeds
-//! - `boasting`: a read that gives bytes reports one more, if the buffer has room for it; that byte
-//!   counts as given
+//! - `boasting`: a read that gives bytes reports one byte more than it gave, if the buffer has room
+//!   for one. The run then reads what the buffer had there
 //! - `stopping`: the writer does not fail after `WRITES` writes; it accepts nothing from then on
 //! - `pieces N`: a call gives or accepts up to `N` bytes, limited by what is left and asked for
 //!
 //! The output for a line is the line, ` -> `, the outcome of the run, and the bytes that the writer
-//! accepted. A line that begins with `#` is printed unchanged.
+//! accepted. A line that begins with `#` is printed unchanged. The program ends with an error at
+//! any other line that does not describe a run, or if an allocation outside of a run fails.
 #![tactic(auto)]
 
 use crate::case::answer;
@@ -28,7 +29,7 @@ mod slow_reader;
 mod slow_writer;
 
 /// Prints `line` if it begins with `#`. Otherwise runs the case that `line` describes, and prints
-/// `line` and the outcome.
+/// `line` and the outcome. Fails if `line` describes no case.
 fn print_line(rt: &(impl Print + AllocGlobal), line: &str) -> Result<()> {
     if line.starts_with('#') {
         println!(rt; "{line}")?;

@@ -7,7 +7,7 @@ use anyhow::{Context, Result};
 pub struct Manner {
     /// Each call is interrupted once before it succeeds.
     pub interrupting: bool,
-    /// A read that gives bytes reports one more than it gave, if the buffer has room for one more.
+    /// A read that gives bytes reports one byte more than it gave, if the buffer has room for one.
     pub boasting: bool,
     /// After its last successful write, a writer accepts 0 bytes instead of failing.
     pub stopping: bool,

@@ -37,8 +37,8 @@ pub(crate) fn outcome_word(outcome: Outcome) -> &'static str {
     }
 }
 
-/// Returns `said`, which is an outcome or an error, then ` x` and the bytes `written` in
-/// hexadecimal.
+/// Returns `said`, the outcome or the error of a comparison, then ` x` and the bytes of the report,
+/// `written`, in hexadecimal.
 pub(crate) fn write_answer(alloc: Global, said: &str, written: &[u8]) -> Result<String> {
     let written = hex::encode(alloc, written)?;
     Ok(format!(in alloc; "{said} x{written}")?)

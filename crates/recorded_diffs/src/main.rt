@@ -13,7 +13,7 @@
 //! The output for a line is the line, ` -> `, then `same`, `different` or the error of the
 //! comparison, and last the bytes of the report, in the form of the two texts. A line that begins
 //! with `#` is printed unchanged. The program ends with an error at any other line that is not a
-//! case.
+//! case, or if an allocation outside of a comparison fails.
 #![tactic(auto)]
 
 use crate::case::answer;

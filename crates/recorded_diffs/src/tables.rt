@@ -29,8 +29,9 @@ pub(crate) fn answer_tables(
     answer_choice(alloc, options, choice, left, right)
 }
 
-/// Compares the CSV tables `left` and `right` in the columns that `choice` selects, with `options`
-/// such as `common`. Returns as text the outcome or the error, and the bytes of the report.
+/// Compares the CSV tables `left` and `right` in the columns that `choice` selects. `options` has
+/// the other settings, such as `common`. Returns as text the outcome or the error, and the bytes of
+/// the report.
 fn answer_choice(
     alloc: Global,
     options: &[&str],
