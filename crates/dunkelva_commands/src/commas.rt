@@ -59,9 +59,9 @@ fn found_in<N: ByteRows>(
     None
 }
 
-/// Reads the first `MOST_ROWS` rows of the regular file `file` again, and returns the number and
-/// the column that `found_in` finds in the first row that has any. Returns `None` if no row has
-/// any, if the file can't be read again, or if an allocation fails.
+/// Reads the first `MOST_ROWS` rows of the regular file `file` again, and returns the first number
+/// with its column that `found_in` finds in them. Returns `None` if it finds none, if the file
+/// can't be read again, or if an allocation fails.
 fn found(rt: &HostRuntime, file: &str, options: &Options<'_>) -> Option<String> {
     let alloc = rt.alloc();
     let source = Source::open(alloc, open_again(rt, file)?, options.csv).ok()?;

@@ -94,7 +94,7 @@ fn print_columns(
 /// Compares the schemas of the columns of the CSV files `left` and `right`, prints the differences,
 /// and returns the exit status. `has_stdin` says whether one of the files is standard input. Fails
 /// if an option is given that is only for documents, if the delimiter is invalid or unclear
-/// (`csv_options`), or if a schema can't be read or the differences can't be printed.
+/// (`csv_options`), or if reading or printing fails.
 fn compare_columns(
     rt: &HostRuntime,
     matches: &ArgMatches<'_>,
@@ -130,8 +130,7 @@ fn print_paths(
 
 /// Compares the schemas of the paths in the files of documents `left` and `right`, prints the
 /// differences, and returns the exit status. `has_stdin` says whether one of the files is standard
-/// input. Fails if an option is given that is only for CSV files, or if a schema can't be read or
-/// the differences can't be printed.
+/// input. Fails if an option is given that is only for CSV files, or if reading or printing fails.
 fn compare_paths(
     rt: &HostRuntime,
     matches: &ArgMatches<'_>,
@@ -147,10 +146,9 @@ fn compare_paths(
 }
 
 /// Compares the schemas of the files `left` and `right`, prints the differences, and returns the
-/// exit status. Fails if an option is invalid or does not go with `--schema-only` or the kind of
-/// the files, if both files are standard input, if standard output is one of the files, if their
-/// kind is unclear (`hold_documents`), or if a schema can't be read or the differences can't be
-/// printed.
+/// exit status. Fails if an option is invalid or does not go with `--schema-only` or the files, if
+/// both files are standard input, if one of them is standard output, if their kind is unclear
+/// (`hold_documents`), or if reading or printing fails.
 pub(crate) fn compare_schemas(
     rt: &HostRuntime,
     matches: &ArgMatches<'_>,

@@ -94,7 +94,8 @@ pub fn refuse_two_formats(
 
 /// Returns whether the files `left` and `right` have documents instead of tables. If `--input` is
 /// given, its value decides. Otherwise the file names decide: names of files of documents end with
-/// `.ndjson` or `.jsonl`. Standard input and a pipe of the shell have the kind of the other file.
+/// `.ndjson` or `.jsonl`. Standard input and a pipe of the shell have the kind of the other file,
+/// and are tables if both files are such inputs.
 ///
 /// Fails only if `--input` is not given: if a name ends with `.json`, or if one of two file names
 /// ends with `.ndjson` or `.jsonl` and the other does not.
