@@ -60,8 +60,8 @@ fn names_table(name: &str) -> bool {
 
 /// Checks the file `other` if it is to be compared with JSON documents: the name `documents` says
 /// that its file has documents, and the name `other` does not. Fails if the file `other` begins
-/// like a known format that is not UTF-8 text, such as gzip, or is a CSV file by its name. In all
-/// other cases accepts `other` unread.
+/// like a known format that is not UTF-8 text, such as gzip, or is a CSV file by its name. Without
+/// a check, `other` is accepted and not read.
 fn refuse_beside(rt: &HostRuntime, documents: &str, other: &str) -> Result<()> {
     if !names_documents(documents) || names_documents(other) {
         return Ok(());
