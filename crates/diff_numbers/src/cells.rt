@@ -24,8 +24,8 @@ pub fn number_in(cell: &[u8]) -> Option<&str>
 }
 
 /// Appends the normal text of the number `text` to `cells`. `room` is memory that is overwritten.
-/// Fails with `WideExponent` if the exponent has more than 30 digits, and with `Memory` if an
-/// allocation fails.
+/// Fails with `WideExponent` if the exponent has more than 30 digits, leading zeros not counted,
+/// and with `Memory` if an allocation fails.
 fn push_number(cells: &mut Strings, room: &mut Vec<u8>, text: &str) -> Result<(), NumberError>
     requires { is_number text.now ≡ true }
     ensures ok { OnOk result
@@ -40,9 +40,10 @@ fn push_number(cells: &mut Strings, room: &mut Vec<u8>, text: &str) -> Result<()
 }
 
 /// Appends to `cells` the text by which `cell` is compared: the normal text if `numeric` is true
-/// and `cell` is a number, and else `cell` itself. `room` is memory that is overwritten. Fails with
-/// `WideExponent` if `numeric` is true and `cell` is a number with an exponent of more than 30
-/// digits, and with `Memory` if an allocation fails.
+/// and `cell` is a number, and else `cell` itself. `room` is memory that is overwritten.
+///
+/// Fails with `WideExponent` if `numeric` is true and `cell` is a number with an exponent of more
+/// than 30 digits, leading zeros not counted. Fails with `Memory` if an allocation fails.
 pub(crate) fn push_comparable(
     cells: &mut Strings,
     room: &mut Vec<u8>,

@@ -1,4 +1,5 @@
-//! Laws of the texts by which cells are compared.
+//! Laws of the texts by which cells are compared. The function does nothing; its contract has the
+//! laws.
 
 ghost use Rattle.diff_numbers.specs.Laws.{CellsTell, NumbersTell};
 

@@ -13,8 +13,10 @@ use json_decimals::error::NumberError;
 
 /// Appends to `cells` the text by which the cell of `table` at `row` and `column` is compared.
 /// `numeric[c]` is `true` if the numbers of column `c` are compared by value. `room` is memory that
-/// is overwritten. Fails with `WideExponent` if a number that is compared by value has an exponent
-/// of more than 30 digits, and with `Memory` if an allocation fails.
+/// is overwritten.
+///
+/// Fails with `WideExponent` if the cell is a number that is compared by value and has an exponent
+/// of more than 30 digits, leading zeros not counted. Fails with `Memory` if an allocation fails.
 fn push_cell(
     cells: &mut Strings,
     room: &mut Vec<u8>,
@@ -41,7 +43,10 @@ fn push_cell(
 
 /// Appends to `cells` the texts by which the cells of row `row` of `table` are compared.
 /// `numeric[c]` is `true` if the numbers of column `c` are compared by value. `room` is memory that
-/// is overwritten. Fails as `push_cell` does.
+/// is overwritten.
+///
+/// Fails with `WideExponent` if a number that is compared by value has an exponent of more than 30
+/// digits, leading zeros not counted. Fails with `Memory` if an allocation fails.
 pub(crate) fn push_row(
     cells: &mut Strings,
     room: &mut Vec<u8>,

@@ -25,8 +25,8 @@ fn bytes_from<O: Offset>(array: &BinaryArray<O>, at: usize, n: usize) -> &[u8]
     &array.values()[from..to]
 }
 
-/// Returns whether string `at + c` of `left` is as long as string `from + c` of `right`, for each
-/// `c` below `n`.
+/// Returns whether the `n` strings from `at` on in `left` have the same lengths, one by one, as the
+/// `n` strings from `from` on in `right`.
 fn are_as_long<L: ByteRows, R: ByteRows>(
     left: &L,
     at: usize,
@@ -49,7 +49,8 @@ fn are_as_long<L: ByteRows, R: ByteRows>(
 }
 
 /// Returns whether the `n` strings from `at` on in `left` have the same lengths and the same bytes
-/// as the `n` strings from `from` on in `right`. `as_long` is whether the lengths are the same.
+/// as the `n` strings from `from` on in `right`. `as_long` is the result of `are_as_long` for these
+/// strings.
 fn are_alike<L: Offset, R: Offset>(
     left: &BinaryArray<L>,
     at: usize,
@@ -72,8 +73,8 @@ fn are_alike<L: Offset, R: Offset>(
 }
 
 /// Returns for each pair in `start..end` whether its two rows have strings of the same lengths,
-/// column by column. Pair `p` is row `left_rows[p]` of `left` and row `right_rows[p]` of `right`. A
-/// row is `width` adjacent strings.
+/// column by column: element `p - start` is for pair `p`. Pair `p` is row `left_rows[p]` of `left`
+/// and row `right_rows[p]` of `right`. A row is `width` adjacent strings.
 fn lengths_agree<L: Offset, R: Offset>(
     alloc: Global,
     left: &BinaryArray<L>,
@@ -105,9 +106,10 @@ fn lengths_agree<L: Offset, R: Offset>(
     Ok(flags)
 }
 
-/// Appends to `places` the indices of the pairs in `start..end` whose two rows differ in a byte
-/// (`are_alike` is false). Pairs and rows are defined as for `lengths_agree`, and `as_long` is the
-/// result of that function.
+/// Appends to `places` the indices of the pairs in `start..end` whose two rows differ in the length
+/// or in a byte of a string. Pair `p` is row `left_rows[p]` of `left` and row `right_rows[p]` of
+/// `right`. A row is `width` adjacent strings. `as_long` is what `lengths_agree` returns for the
+/// same arguments.
 fn push_unlike<L: Offset, R: Offset>(
     places: &mut Vec<usize>,
     left: &BinaryArray<L>,

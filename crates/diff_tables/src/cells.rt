@@ -47,7 +47,8 @@ impl Model for Cells {
 }
 
 impl Cells {
-    /// Creates cells from an array with 32-bit offsets. `bytes` is the buffer of the array's bytes.
+    /// Creates cells from an array with 32-bit offsets and no validity. `bytes` is the buffer of
+    /// the array's bytes.
     pub(crate) fn near(array: BinaryArray<i32>, bytes: Buffer<u8>) -> Cells
         requires present { array.validity ≡ None }
         requires bytes { bytes.items ≡ array.values }
@@ -58,7 +59,7 @@ impl Cells {
         }
     }
 
-    /// Creates cells from an array with 64-bit offsets.
+    /// Creates cells from an array with 64-bit offsets and no validity.
     pub(crate) fn far(array: BinaryArray<i64>) -> Cells
         requires { array.validity ≡ None }
         ensures { result ≡ record { strings = offset_strings (λ x. x) array; far = true } }

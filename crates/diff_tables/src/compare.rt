@@ -103,7 +103,8 @@ fn changed_places(
 }
 
 /// Matches left rows with the rows of `right` by key. `left_keys` has the encoded key of each left
-/// row. `columns` are the key columns of `right`. Fails like `match_rows`.
+/// row. `columns` are the indices of the key columns. Fails with `TooManyRows` if a table has more
+/// than 2^32 rows, and with `Memory` if an allocation fails.
 fn matched_with(
     alloc: Global,
     left_keys: &BinaryArray<i64>,
@@ -125,8 +126,9 @@ fn matched_with(
     }
 }
 
-/// Matches the rows of two tables by their cells in `columns`, the key columns of both tables.
-/// Fails like `match_rows`.
+/// Matches the rows of two tables by their cells in `columns`, the indices of the key columns.
+/// Fails with `TooManyRows` if a table has more than 2^32 rows, and with `Memory` if an allocation
+/// fails.
 fn matched(
     alloc: Global,
     left: &Table,
@@ -149,7 +151,7 @@ fn matched(
 }
 
 /// Compares two tables with the same number of columns. Rows are matched by their cells in
-/// `columns`, the key columns of both tables. The result has the matched pairs of rows, the rows
+/// `columns`, the indices of the key columns. The result has the matched pairs of rows, the rows
 /// without a partner, and a list of the matched pairs that differ.
 ///
 /// Fails with `TooManyRows` if a table has more than 2^32 rows, and with `Memory` if an allocation
@@ -173,8 +175,8 @@ pub fn compare_tables(
 }
 
 /// Returns the first row with the same key as an earlier row, together with that earlier row.
-/// Returns `None` if all keys are different. The key of a row is its cells in `columns`. The only
-/// error is `Memory`.
+/// Returns `None` if all keys are different. The key of a row is its cells in the columns with the
+/// indices `columns`. The only error is `Memory`.
 pub fn key_twice(
     alloc: Global,
     table: &Table,

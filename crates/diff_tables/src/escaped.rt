@@ -18,8 +18,8 @@ fn push_byte(out: &mut Vec<u8>, byte: u8) -> Result<(), AllocError>
     Ok(())
 }
 
-/// Appends `string` to `out`, and then two zero bytes as an end mark. Each zero byte of `string` is
-/// written as the two bytes 0 and 1.
+/// Appends `string` to `out` byte by byte, and then two zero bytes as an end mark. Each zero byte
+/// of `string` is written as the two bytes 0 and 1.
 fn push_marked(out: &mut Vec<u8>, string: &[u8]) -> Result<(), AllocError>
     ensures { OnOk result (out.new.items ≡ out.old.items ++ escaped string.now) }
 {

@@ -12,8 +12,8 @@ use polars_arrays_bits::error::ComputeError;
 use polars_arrays_bytes::binary::BinaryArray;
 use std::alloc::{AllocError, Global};
 
-/// Sets `key` to the encoded key of row `i` of `table`: the row's cells in `columns`, each encoded
-/// and appended by `push_escaped`.
+/// Sets `key` to the encoded key of row `i` of `table`: the row's cells in `columns`, each with an
+/// end mark (`push_escaped`). After an error, `key` may have a part of it.
 fn write_key(
     key: &mut Vec<u8>,
     table: &Table,
@@ -31,8 +31,9 @@ fn write_key(
     Ok(())
 }
 
-/// Returns the encoded key of each row of a table. Two rows have the same key exactly if they have
-/// the same cells in `columns`. The only error is `Memory`.
+/// Returns the encoded key of each row of a table. `columns` are the indices of the key columns:
+/// two rows have the same key exactly if they have the same cells in these columns. The only error
+/// is `Memory`.
 pub fn keys_of(
     alloc: Global,
     table: &Table,

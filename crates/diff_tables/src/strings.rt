@@ -86,7 +86,7 @@ impl Strings {
         Ok(())
     }
 
-    /// Appends a string.
+    /// Appends a string. After an error, nothing is known about the content of the list.
     pub fn push(&mut self, string: &[u8]) -> Result<(), AllocError>
         ensures { OnOk result
             ((all : List (List ℕ)) → AreStrings self.old all
@@ -97,7 +97,8 @@ impl Strings {
         Ok(())
     }
 
-    /// Appends all strings of a list.
+    /// Appends all strings of a list, in order. After an error, nothing is known about the content
+    /// of `self`.
     pub fn push_all<S: StringList>(&mut self, strings: &S) -> Result<(), AllocError>
         ensures { OnOk result
             ((all : List (List ℕ)) → AreStrings self.old all

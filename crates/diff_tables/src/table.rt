@@ -34,8 +34,8 @@ impl Model for Table {
 }
 
 impl Table {
-    /// Creates a table of `count` rows with `width` cells each. `cells` has the cells row by row.
-    /// The bytes are not copied. The only error is `Memory`.
+    /// Creates a table of `count` rows with `width` cells each. `cells` has all `width * count`
+    /// cells, row by row. The bytes are not copied. The only error is `Memory`.
     pub fn new(
         alloc: Global,
         width: usize,
@@ -70,7 +70,7 @@ impl Table {
         self.count
     }
 
-    /// Returns the cell in column `c` of row `i`.
+    /// Returns the cell in column `c` of row `i`. Both are numbered from 0.
     pub fn cell(&self, i: usize, c: usize) -> &[u8]
         requires row { i < length self.now.rows }
         requires column { c < self.now.width }

@@ -63,8 +63,8 @@ fn are_close(margin: &Margin, left: &[u8], right: &[u8]) -> bool
 
 impl<'a> Tolerance<'a> {
     /// Returns whether this tolerance is for the column named `column`, and the cells `left` and
-    /// `right` are numbers that differ by no more than the margin allows. Returns false if a number
-    /// has an exponent of more than 30 digits.
+    /// `right` are numbers that differ by no more than the margin allows. Returns `false` if a cell
+    /// is not a number, or is a number with an exponent of more than 30 digits.
     fn allows(&self, column: &[u8], left: &[u8], right: &[u8]) -> bool
         ensures { result ≡ allows self.now column.now left.now right.now }
     {

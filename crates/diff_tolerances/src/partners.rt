@@ -15,7 +15,8 @@ use polars_arrays_bytes::binary::BinaryArray;
 use std::alloc::{AllocError, Global};
 
 /// Matches left rows and the rows of `right` by key. `left_keys` has the encoded key of each left
-/// row. `columns` are the key columns of `right`. Fails as `partners_of` does.
+/// row. `columns` are the indices of the key columns. Fails with `TooManyRows` if a table has more
+/// than 2^32 rows, and with `Memory` if an allocation fails.
 fn matched_with(
     alloc: Global,
     left_keys: &BinaryArray<i64>,
@@ -37,7 +38,9 @@ fn matched_with(
     }
 }
 
-/// Matches the rows of `left` and `right` by their cells in `columns`. Fails as `partners_of` does.
+/// Matches the rows of `left` and `right` by their cells in `columns`, the indices of the key
+/// columns. Fails with `TooManyRows` if a table has more than 2^32 rows, and with `Memory` if an
+/// allocation fails.
 fn matched(
     alloc: Global,
     left: &Table,
@@ -60,7 +63,8 @@ fn matched(
 }
 
 /// Returns for each right row the left row that is its partner, or `None` if it has no partner.
-/// `count` is the number of right rows. `left_rows[k]` is the partner of `right_rows[k]`.
+/// `count` is the number of right rows. `left_rows[k]` is the partner of `right_rows[k]`. Rows that
+/// are not in `right_rows` have no partner.
 fn rows_beside(
     alloc: Global,
     left_rows: &[u32],
@@ -81,7 +85,8 @@ fn rows_beside(
 }
 
 /// Returns for each right row the number of the left row that is its partner, or `None` if it has
-/// no partner. Rows are numbered from 0, and are matched by their cells in `columns`.
+/// no partner. Rows are numbered from 0, and are matched by their cells in `columns`, the indices
+/// of the key columns.
 ///
 /// Fails with `TooManyRows` if a table has more than 2^32 rows, and with `Memory` if an allocation
 /// fails.

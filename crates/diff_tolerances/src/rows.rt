@@ -43,8 +43,10 @@ fn cell_at<'a>(
     }
 }
 
-/// Appends to `cells` the cells to compare in place of row `row` of `right`, as `cell_at` returns
-/// them. `partner` is the left row that is the partner of `row`, or `None` if it has no partner.
+/// Appends to `cells` the cells to compare in place of row `row` of `right`: the partner's cell
+/// where a tolerance allows the two to differ, and else the right cell. `partner` is the left row
+/// that is the partner of `row`, or `None` if it has no partner. `names` has the names of the
+/// columns.
 pub(crate) fn push_row(
     cells: &mut Strings,
     tolerances: &[Tolerance<'_>],

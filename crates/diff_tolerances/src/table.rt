@@ -17,9 +17,10 @@ use diff_tables::table::Table;
 use polars_arrays_bytes::binary::BinaryArray;
 use std::alloc::{AllocError, Global};
 
-/// Returns, row by row, the cells to compare in place of the cells of `right`. `names` has the
-/// names of the columns. `partners[j]` is the left row that is the partner of right row `j`, or
-/// `None` if it has no partner.
+/// Returns, row by row, the cells to compare in place of the cells of `right`: the partner's cell
+/// where a tolerance allows the two to differ, and else the right cell. `names` has the names of
+/// the columns. `partners[j]` is the left row that is the partner of right row `j`, or `None` if it
+/// has no partner.
 fn tolerant_cells(
     alloc: Global,
     tolerances: &[Tolerance<'_>],
@@ -56,7 +57,8 @@ fn tolerant_cells(
 /// Returns the table to compare in place of `right`. A cell of `right` is replaced by the cell in
 /// the same column of the row's left partner if a tolerance for this column allows the two to
 /// differ: with a tolerance of 0.1, 1.05 is replaced by 1.0. All other cells are unchanged. `names`
-/// has the names of the columns. `columns` are the key columns, by which rows are matched.
+/// has the names of the columns. `columns` are the indices of the key columns, by which rows are
+/// matched.
 ///
 /// Fails with `TooManyRows` if a table has more than 2^32 rows, and with `Memory` if an allocation
 /// fails.

@@ -50,7 +50,8 @@ fn push_beginning(out: &mut Vec<char>, text: &[char], room: usize) -> Result<(),
 }
 
 /// Appends the longest suffix of `text` that is at most `room` columns wide and begins with a
-/// character of a width above 0. So it never begins with a combining mark whose letter is cut off.
+/// character of a width above 0. So the suffix never begins with a combining mark whose letter is
+/// cut off. Appends nothing if there is no such suffix.
 fn push_ending(out: &mut Vec<char>, text: &[char], room: usize) -> Result<(), AllocError>
     ensures { OnOk result (out.new.items ≡ out.old.items ++ ending room text.now) }
 {
@@ -66,8 +67,8 @@ fn push_ending(out: &mut Vec<char>, text: &[char], room: usize) -> Result<(), Al
     Ok(())
 }
 
-/// Appends `text` cut to `room` columns: its beginning, `…` and its end. Appends nothing if `room`
-/// is 0.
+/// Appends `text` shortened to at most `room` columns: its beginning, `…` and its end. Appends
+/// nothing if `room` is 0.
 fn push_shortened(out: &mut Vec<char>, text: &[char], room: usize) -> Result<(), AllocError>
     ensures { OnOk result (out.new.items ≡ out.old.items ++ shortened room text.now) }
 {
@@ -81,8 +82,9 @@ fn push_shortened(out: &mut Vec<char>, text: &[char], room: usize) -> Result<(),
     Ok(())
 }
 
-/// Appends `text` unchanged if it is at most `room` columns wide, and else cut in its middle to
-/// that width. `abcdefgh` cut to 5 columns is `ab…gh`.
+/// Appends `text` unchanged if it is at most `room` columns wide. Otherwise, writes `…` in place of
+/// its middle, so that at most `room` columns are appended: `ab…gh` for `abcdefgh` and 5 columns.
+/// If `text` is wider than 0 columns and `room` is 0, appends nothing.
 #[tactic(auto, unfolding(crate::specs::Cut::cut))]
 pub fn push_cut(out: &mut Vec<char>, text: &[char], room: usize) -> Result<(), AllocError>
     ensures { OnOk result (out.new.items ≡ out.old.items ++ cut room text.now) }
@@ -105,8 +107,8 @@ fn push_spaces(out: &mut Vec<char>, n: usize) -> Result<(), AllocError>
     Ok(())
 }
 
-/// Appends the blanks that fill `text` up to `room` columns. Appends nothing if `text` is as wide
-/// or wider.
+/// Appends the blanks that fill `text` up to `room` columns, but not `text` itself. Appends nothing
+/// if `text` is as wide or wider.
 pub fn push_filler(out: &mut Vec<char>, text: &[char], room: usize) -> Result<(), AllocError>
     ensures { OnOk result (out.new.items ≡ out.old.items ++ filler room text.now) }
 {

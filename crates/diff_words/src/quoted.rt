@@ -30,7 +30,7 @@ fn is_high_control(first: u8, second: u8) -> bool
 }
 
 /// Returns whether `byte` is a control character, or one of the two bytes that encode one. `before`
-/// and `after` are the bytes next to it.
+/// and `after` are the bytes before and after it, or 0 at an end of the string.
 fn is_hidden(before: u8, byte: u8, after: u8) -> bool
     ensures { result ≡ is_hidden before byte after }
 {
@@ -56,7 +56,8 @@ fn push_hex(out: &mut Vec<u8>, byte: u8) -> Result<(), AllocError>
 }
 
 /// Appends a byte of a quoted string: unchanged, or escaped if it is a quote, a backslash or part
-/// of a control character. `before` and `after` are the bytes next to it.
+/// of a control character. `before` and `after` are the bytes before and after it, or 0 at an end
+/// of the string.
 #[tactic(auto, unfolding(crate::specs::Quoted::byte_text))]
 fn push_byte(out: &mut Vec<u8>, before: u8, byte: u8, after: u8) -> Result<(), AllocError>
     ensures { OnOk result (out.new.items ≡ out.old.items ++ byte_text before byte after) }
@@ -82,7 +83,7 @@ fn byte_at(bytes: &[u8], i: usize) -> u8
 }
 
 /// Appends a byte string between double quotes. Quotes, backslashes and control characters are
-/// escaped.
+/// escaped. All other bytes are unchanged, also those that are not UTF-8.
 pub(crate) fn push_quoted(out: &mut Vec<u8>, bytes: &[u8]) -> Result<(), AllocError>
     ensures { OnOk result (out.new.items ≡ out.old.items ++ quoted bytes.now) }
 {
