@@ -48,7 +48,9 @@ trait Beside<T: NativeType> {
     /// The type of operations that have such a second operand.
     type Operation: Copy;
 
-    /// Runs an operation once.
+    /// Runs an operation once, on `array` and this operand, and returns the resulting array. The
+    /// error is `Unsupported` if this operand is an array of another length. Any other error is
+    /// that of the operation.
     fn run(
         &self,
         alloc: Global,
@@ -82,7 +84,8 @@ impl<T: HasPrimitiveArithmeticKernel> Beside<T> for PrimitiveArray<T> {
     }
 }
 
-// Runs an operation on two arrays of equal length, and returns the resulting array.
+// Runs an operation on two arrays of equal length, and returns the resulting array. If the
+// operation fails, returns its error.
 #[inline(always)]
 fn run_pair<T: HasPrimitiveArithmeticKernel>(
     alloc: Global,
@@ -160,8 +163,8 @@ fn owned_copy<T: NativeType>(
 }
 
 // Runs an operation `repeats` times, and returns the checksum. The first run gets a copy of `array`
-// that owns its values, and each later run the result of the run before. If a run fails, returns
-// its error.
+// that owns its values, and each later run the result of the run before. If a run or the copying
+// fails, returns the error.
 #[inline(always)]
 fn repeat_in_place<T: NativeType + AsPrimitive<u64>, B: Beside<T>>(
     alloc: Global,
@@ -182,9 +185,9 @@ fn repeat_in_place<T: NativeType + AsPrimitive<u64>, B: Beside<T>>(
     Ok(checksum)
 }
 
-// Runs an operation `repeats` times and returns a checksum of the results. Each run gets a new
-// clone of `array`, which shares its values, so that no run can write its result into them. If a
-// run fails, returns its error.
+// Runs an operation `repeats` times, and returns the checksum. Each run gets a new clone of
+// `array`, which shares its values, so that no run can write its result into them. If a run or the
+// cloning fails, returns the error.
 #[inline(always)]
 fn repeat_anew<T: NativeType + AsPrimitive<u64>, B: Beside<T>>(
     alloc: Global,
@@ -253,8 +256,8 @@ where
 }
 
 // Creates an array of `values`, converted to `T`. The first bits of `words` are its validity. It
-// has none if `words` is empty. The error is `Unsupported` if `words` does not have at least 64
-// bits after those of the validity. Any other error is `Memory`.
+// has none if `words` is empty. The error is `Unsupported` if `words` is not empty and has fewer
+// than 64 bits after those of the validity. Any other error is `Memory`.
 fn array_of<T: NativeType>(
     alloc: Global,
     values: &[i64],
@@ -368,8 +371,10 @@ pub extern "C" fn polars_time_pairs(
     checksum.unwrap_or(0)
 }
 
-/// Runs an operation on an array of `values`, and on `scalar` if the operation needs a number. The
-/// parameters mean what they mean in `polars_time_pairs`, and the array is its left array.
+/// Runs an operation on an array of `values`, and on `scalar` if the operation needs a number. Both
+/// are converted to the type with the number `number_type` by truncation or extension. The validity
+/// begins at bit 0 of `words`. If `words` is empty, no row is null. If `in_place` is true, the
+/// array owns its values, and each later run gets the result of the run before as its array.
 #[unsafe(no_mangle)]
 pub extern "C" fn polars_time_lone(
     alloc: Global,

@@ -13,8 +13,8 @@ pub(crate) enum ColumnKernel {
     TotEq,
 }
 
-/// The columns of two tables. A kernel runs on each column of `left` and the column of `right` at
-/// the same index.
+/// The columns of two tables. A run of a kernel compares each column of `left` with the column of
+/// `right` at the same index, and adds up the numbers of all columns.
 #[derive(Drop)]
 struct Columns<'a> {
     left: &'a [PrimitiveArray<i32>],

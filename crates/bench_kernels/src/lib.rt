@@ -114,9 +114,9 @@ pub(crate) trait Timed {
 }
 
 // Runs `kernel` `repeats` times, on the operands `first` and `second` in turn, and returns a
-// checksum of the numbers that the runs return. The runs on each of them ask for bit 0 of the
-// result, then for bit 1, and so on. Inlined for one kernel, the loop has no choice of a kernel in
-// it.
+// checksum of the numbers that the runs return. The runs on each of the two ask for bit 0 of the
+// result, then for bit 1, and so on (parameter `i` of `Timed::run`). Inlined for one kernel, the
+// loop has no choice of a kernel in it.
 #[inline(always)]
 pub(crate) fn repeat<X: Timed>(
     alloc: Global,

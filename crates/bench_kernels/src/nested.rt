@@ -18,7 +18,7 @@ enum NestedKernel {
     TotEqMissing,
 }
 
-// Runs a kernel on two arrays, and returns bit `i` of its result as a number.
+// Runs a kernel on two arrays, and returns bit `i` of its result as `bit_of` does.
 #[inline(always)]
 fn run_nested(
     alloc: Global,

@@ -26,7 +26,7 @@ pub(crate) enum NestedType {
     /// Lists of the numbers in `items`, between the offsets in `offsets`. A list is null if its bit
     /// of `present` is 0.
     Lists,
-    /// Lists of `size` numbers each from `items`.
+    /// Lists of `size` numbers each from `items`. Numbers after the last whole list are left out.
     FixedLists,
     /// Structs of columns of `size` rows each. The columns follow one another in `items`. If
     /// `offsets` is not empty, a last column has the texts between these offsets in `bytes`. A text
@@ -35,7 +35,8 @@ pub(crate) enum NestedType {
     /// Dictionaries with the keys `items`. The entries are the texts between `offsets` in `bytes`.
     /// An entry is null if its bit of `present` is 0.
     Dictionaries,
-    /// A single row: the first number of `items`, inside `size` levels of lists of one row.
+    /// A single row: the first number of `items`, or 0 if there is none, inside `size` levels of
+    /// lists of one row.
     DeepLists,
     /// Lists of the texts between `offsets` in `bytes`. The offsets of the lists are in `items`. A
     /// text is null if its bit of `present` is 0.
@@ -66,7 +67,7 @@ fn validity(alloc: Global, words: &[u64], rows: usize) -> Result<Option<Bitmap>,
     Ok(Some(Bitmap::from_words(words, 0, rows)))
 }
 
-/// Puts the value of `made` in a box. If `made` is an error, returns it. Otherwise the error is
+/// Puts the value of `made` in a box. If `made` is an error, returns this error. Any other error is
 /// `Memory`.
 pub(crate) fn boxed<T: Drop>(
     alloc: Global,

@@ -53,7 +53,7 @@ fn time_pairs<T: NativeType>(
     )
 }
 
-// Clones two arrays.
+// Clones two arrays. The error is `Memory`.
 fn clones_of<T: NativeType>(
     alloc: Global,
     arrays: &(PrimitiveArray<T>, PrimitiveArray<T>),

@@ -98,8 +98,8 @@ fn time_clones<T: BitNumber + WrappingSum + AsPrimitive<u64>>(
 }
 
 // Creates a bitmap of the `len` bits of a copy of `words` from bit `at` on. Returns `Ok(None)` if
-// `words` is empty. The error is `Unsupported` if `words` does not have at least 64 bits after the
-// bitmap's last one, since `windows` also creates a bitmap that begins 64 bits later. Any other
+// `words` is empty. Otherwise, the error is `Unsupported` if `words` has fewer than 64 bits after
+// the bitmap's last one, since `windows` also creates a bitmap that begins 64 bits later. Any other
 // error is `Memory`.
 pub(crate) fn validity_from(
     alloc: Global,

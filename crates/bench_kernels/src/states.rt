@@ -141,9 +141,9 @@ fn time_cut(
     Ok(repeat(alloc, (), (&chunks, &chunks), repeats))
 }
 
-// Creates an array of `values` as 32-bit numbers, and then does what `time_cut` does. The validity
-// begins at bit `shift` of `validities`. If this slice is empty, the array has no validity. The
-// error is also `Unsupported` if `validities` is too short.
+// Creates an array of `values`, truncated to 32 bits, and returns the checksum of `time_cut` for
+// it. The validity begins at bit `shift` of `validities`. If this slice is empty, the array has no
+// validity. The error is that of `time_cut`, or `Unsupported` if `validities` is too short.
 fn time_chunks(
     alloc: Global,
     values: &[i64],

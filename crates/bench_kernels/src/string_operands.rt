@@ -65,8 +65,8 @@ pub(crate) fn strings_of<A: StringArray, S: Copy>(
     comparable_strings(left, A::of_parts(alloc, right)?, scalar)
 }
 
-/// Clones both arrays of `strings`, and returns the clones with the same scalar. If cloning fails,
-/// returns the error.
+/// Clones both arrays of `strings`, and returns the clones with the same scalar. The error is
+/// `Memory`.
 pub(crate) fn clones_of<A: StringArray, S: Copy>(
     alloc: Global,
     strings: &Strings<A, S>,
@@ -75,7 +75,7 @@ pub(crate) fn clones_of<A: StringArray, S: Copy>(
     comparable_strings(left, strings.right.clone_strings(alloc)?, strings.scalar)
 }
 
-// Copies `views` into a shared buffer of views.
+// Copies `views` into a shared buffer of views. The error is `Memory`.
 fn shared_views(alloc: Global, views: &[[u8; 16]]) -> Result<Buffer<View>, ComputeError> {
     let mut rows = Vec::with_capacity(alloc, views.len())?;
     for view in views {
@@ -103,7 +103,7 @@ pub(crate) trait StringArray: ByteRows + Drop + Sized {
     /// is `Unsupported` if they make no array. Any other error is `Memory`.
     fn of_parts(alloc: Global, parts: &Parts) -> Result<Self, ComputeError>;
 
-    /// Clones the array.
+    /// Clones the array. The error is `Memory`.
     fn clone_strings(&self, alloc: Global) -> Result<Self, ComputeError>;
 }
 

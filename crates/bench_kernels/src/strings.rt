@@ -133,7 +133,9 @@ where
 }
 
 // Creates arrays of type `A` from `left` and `right`, runs the kernel with the number `kernel` on
-// them and on clones of them in turn, `repeats` times in all, and returns the checksum.
+// them and on clones of them in turn, `repeats` times in all, and returns the checksum. The error
+// is `Unsupported` if the parts make no array, or if the arrays have different lengths. Any other
+// error is `Memory`.
 fn time_arrays<A: StringArray, S: Copy>(
     alloc: Global,
     left: &Parts,
@@ -153,7 +155,7 @@ where
 /// Runs a kernel on two arrays of strings, without nulls. `string_type` decides which slices make
 /// an array: views and the bytes to which they refer, offsets and the bytes of the texts between
 /// them, or the bytes of strings of 16 bytes each. A broadcast compares the left array with
-/// `scalar`.
+/// `scalar`, which counts as empty if it is compared with texts and is not UTF-8.
 #[unsafe(no_mangle)]
 pub extern "C" fn polars_time_strings(
     alloc: Global,

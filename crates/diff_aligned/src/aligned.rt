@@ -22,7 +22,7 @@ use std::str::from_utf8;
 /// The width and colours of the terminal, and the names of the two files.
 #[derive(Clone, Copy, Debug)]
 pub struct Sheet<'a> {
-    /// The width of the terminal in columns. If it is 40 or more, no line is wider.
+    /// The width of the terminal in columns. If it is 40 or more, no line of the report is wider.
     pub width: usize,
     /// `true` if the report has colours.
     pub colored: bool,
@@ -34,7 +34,8 @@ pub struct Sheet<'a> {
 
 /// Reads `lines`, the JSON lines of a report. Appends the texts before the table to `head`, the
 /// rows of the table to `rows`, and the texts after the table to `tail`. Fails with `NoReport` if
-/// one of `lines` is not a line of a report, and with `Memory` if an allocation fails.
+/// one of `lines` is not a line of a report, and with `Memory` if an allocation fails. After an
+/// error, a part may have been appended.
 fn push_lines(
     alloc: Global,
     head: &mut Vec<u8>,
@@ -62,7 +63,8 @@ fn push_lines(
 
 /// Splits `text` into the JSON lines of a report. Appends the texts before the table to `head`, the
 /// rows of the table to `rows`, and the texts after the table to `tail`. Fails with `NoReport` if a
-/// line of `text` is not a line of a report, and with `Memory` if an allocation fails.
+/// line of `text` is not a line of a report, and with `Memory` if an allocation fails. After an
+/// error, a part may have been appended.
 fn push_text(
     alloc: Global,
     head: &mut Vec<u8>,

@@ -191,8 +191,8 @@ fn push_skipped_counts(
     Ok(())
 }
 
-/// Appends the number of skipped lines of each file to `words` (`push_skipped_counts`). Appends
-/// nothing if the member `left_skipped` of `counts` is not a number.
+/// Appends the number of skipped lines of each file to `words` (`push_skipped_counts`). `counts` is
+/// the JSON line of the counts. Appends nothing if it has no number as its member `left_skipped`.
 #[tactic(auto, unfolding(crate::specs::Counts::skipped_words))]
 fn push_skipped_words(
     alloc: Global,

@@ -3,10 +3,10 @@
 ghost use Rattle.diff_aligned.specs.Laws.{CutsHaveRoom, PaddedFill, ParagraphsHaveRoom};
 ghost use Rattle.diff_aligned.specs.Laws.{RowsHaveRoom, TextsAreShown, WholeWhereRoom};
 
-/// States the laws of reports in aligned columns. No line of words is wider than the terminal, and
-/// no row of the table is, if the terminal has 40 or more columns. Shown texts have no hidden
-/// characters. A cut text fits its room, a padded text fills its room, and a text that fits is not
-/// cut.
+/// States the laws of reports in aligned columns. On a terminal of 40 or more columns, no row of
+/// the table is wider than the terminal. On any terminal, no line of words is. Shown texts have no
+/// hidden characters (control characters and invisible ones). A cut text is at most as wide as its
+/// room, a padded text exactly as wide, and a text that fits its room is not cut.
 pub fn aligned_laws()
     ensures rows { RowsHaveRoom }
     ensures paragraphs { ParagraphsHaveRoom }

@@ -7,7 +7,7 @@ use crate::pieces::{cut_of, push_chars};
 use diff_widths::cut::width_of;
 use std::alloc::{AllocError, Global};
 
-/// Appends a line and a line feed.
+/// Appends the characters of a line, encoded as UTF-8, and a line feed.
 fn push_text_line(out: &mut Vec<u8>, line: &[char]) -> Result<(), AllocError>
     ensures { OnOk result (out.new.items ≡ out.old.items ++ texts_bytes (line.now ∷ [])) }
 {
@@ -16,8 +16,9 @@ fn push_text_line(out: &mut Vec<u8>, line: &[char]) -> Result<(), AllocError>
     Ok(())
 }
 
-/// Appends words as lines of at most `width` columns. The first line begins with `first`. A word
-/// that doesn't fit on the line goes on the next one, and a word wider than `width` is cut.
+/// Appends words as lines of at most `width` columns, with blanks between the words. The first line
+/// begins with `first`, which should not be wider than `width`. A word that doesn't fit on the line
+/// goes on the next one, and a word wider than `width` is cut.
 fn push_filled(
     alloc: Global,
     out: &mut Vec<u8>,

@@ -42,8 +42,8 @@ fn push_painted(
     Ok(())
 }
 
-/// Returns `text` unchanged if it is at most `room` columns wide, and else cut in its middle to
-/// that width.
+/// Returns `text` if it is at most `room` columns wide. Otherwise, returns it with `…` in place of
+/// its middle, at most `room` columns wide (`push_cut`).
 pub(crate) fn cut_of(alloc: Global, text: &[char], room: usize) -> Result<Vec<char>, AllocError>
     ensures { IfOk result (λ v. v.items ≡ cut room text.now) }
 {
@@ -52,8 +52,8 @@ pub(crate) fn cut_of(alloc: Global, text: &[char], room: usize) -> Result<Vec<ch
     Ok(out)
 }
 
-/// Appends `text`, cut to `room` columns if it is wider, and else filled up to `room` columns with
-/// blanks.
+/// Appends `text`, cut if it is wider than `room` columns (`cut_of`), and then the blanks that fill
+/// it up to `room` columns.
 #[tactic(auto, unfolding(diff_widths::specs::Cut::padded))]
 fn push_padded(
     alloc: Global,
@@ -121,7 +121,8 @@ fn push_change(
     Ok(())
 }
 
-/// Returns `mark`, and then the key of `row`, cut if it is wider than `rooms.key`.
+/// Returns the text `mark`, such as `~ `, and then the key of `row`, cut if it is wider than
+/// `rooms.key`.
 fn marked_key(alloc: Global, mark: &[u8], rooms: &Rooms, row: &Row) -> Result<Vec<char>, AllocError>
     ensures { IfOk result (λ v. v.items ≡ mark.now ++ cut rooms.now.key row.now.key.items) }
 {

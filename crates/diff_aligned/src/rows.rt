@@ -77,8 +77,8 @@ fn push_change(
 }
 
 /// Appends a row of the table for each of `changes`. Each change is a member: the name of a column,
-/// and an object with the two values. `name` is the key of the changed row. Only the first of the
-/// appended rows has this key.
+/// and an object with the two values. `name` is the key of the changed row (`push_row_name`). Only
+/// the first of the appended rows has this key.
 fn push_member_rows(
     alloc: Global,
     rows: &mut Vec<Row>,
@@ -101,8 +101,8 @@ fn push_member_rows(
 }
 
 /// Appends a row of the table for each of `changes`. The member `path` of each change is the path
-/// that differs. `name` is the key of the changed row. Only the first of the appended rows has this
-/// key.
+/// that differs. `name` is the key of the changed row (`push_row_name`). Only the first of the
+/// appended rows has this key.
 fn push_item_rows(
     alloc: Global,
     rows: &mut Vec<Row>,
@@ -184,9 +184,10 @@ pub(crate) fn push_changed(
     Ok(())
 }
 
-/// Appends the row of the table for a row that only the file named `file` has. The note of the new
-/// row is the name of the file, and the line at which the row begins there. `line` is the JSON line
-/// of the row.
+/// Appends the row of the table for a row that only the file named `file` has. `mark` is `Removed`
+/// if this is the left file, and `Added` if it is the right one. The note of the new row is the
+/// name of the file, and the line at which the row begins there. `line` is the JSON line of the
+/// row.
 #[tactic(auto, unfolding(crate::specs::Rows::lone_row))]
 pub(crate) fn push_lone(
     alloc: Global,

@@ -14,7 +14,7 @@ use diff_lines::parts::{members_at, number_at, part_of};
 use json::{Value, to_vec};
 use std::alloc::{AllocError, Global};
 
-/// Appends a value as JSON, with hidden characters escaped.
+/// Appends a value as JSON. Control characters and invisible characters are escaped (`push_text`).
 #[tactic(auto, unfolding(crate::specs::Texts::value_text))]
 fn push_value(alloc: Global, out: &mut Vec<char>, value: &Value<'_>) -> Result<(), AllocError>
     requires { HasNumbers (value_view value.now) }
@@ -104,7 +104,7 @@ pub(crate) fn push_pair(
     Ok(())
 }
 
-/// Appends members as `name=value`, with commas between them.
+/// Appends each of `members` as `name=value`, with commas between them.
 fn push_pairs(
     alloc: Global,
     out: &mut Vec<char>,
@@ -123,8 +123,9 @@ fn push_pairs(
     Ok(())
 }
 
-/// Appends the members of the object that `value` has as its member `name`, each as `name=value`.
-/// Appends nothing if `value` has no such member, or if the member is not an object.
+/// Appends the members of the object that `value` has as its member `name`, each as `name=value`,
+/// with commas between them. Appends nothing if `value` has no such member, or if the member is not
+/// an object.
 #[tactic(auto, unfolding(crate::specs::Texts::pairs_text))]
 pub(crate) fn push_pairs_of(
     alloc: Global,

@@ -71,7 +71,8 @@ fn push_name(alloc: Global, out: &mut Vec<u8>, name: &str) -> Result<(), AllocEr
     Ok(())
 }
 
-/// Appends a name in a code span (see `push_name`).
+/// Appends a name between backquotes, as a code span. Unless `is_word` holds, the name is written
+/// as a JSON string.
 pub(crate) fn push_name_cell(alloc: Global, out: &mut Vec<u8>, name: &str) -> Result<(), AllocError>
     ensures { OnOk result (out.new.items ≡ out.old.items ++ name_cell name.now) }
 {
@@ -147,7 +148,8 @@ fn push_pairs(
 }
 
 /// Appends the members of the object that `value` has as its member `name`, each as `name=value` in
-/// a code span. Appends nothing if `value` has no such member, or if the member is not an object.
+/// a code span, with commas between them. Appends nothing if `value` has no such member, or if the
+/// member is not an object.
 #[tactic(auto, unfolding(crate::specs::Cells::pairs_cell))]
 pub(crate) fn push_pairs_cell(
     alloc: Global,

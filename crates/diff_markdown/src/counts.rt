@@ -44,8 +44,8 @@ fn push_columns(out: &mut Vec<u8>, pairs: &[u8]) -> Result<(), AllocError>
     Ok(())
 }
 
-/// Appends the number of skipped lines of each file. Appends nothing if the member `left_skipped`
-/// of `counts` is not a number.
+/// Appends the number of skipped lines of each file. `counts` is the JSON line of the counts.
+/// Appends nothing if it has no number as its member `left_skipped`.
 #[tactic(auto, unfolding(crate::specs::Counts::skipped_note))]
 fn push_skipped(out: &mut Vec<u8>, counts: &Value<'_>) -> Result<(), AllocError>
     ensures { OnOk result (out.new.items ≡ out.old.items ++ skipped_note (value_view counts.now)) }
@@ -75,7 +75,8 @@ fn push_hidden(out: &mut Vec<u8>, count: &str) -> Result<(), AllocError>
     Ok(())
 }
 
-/// Appends all counts of a report. `counts` is the JSON line of the counts.
+/// Appends all counts of a report: rows by kind, differing cells by column, skipped lines, and
+/// differences that are not shown. `counts` is the JSON line of the counts.
 #[tactic(auto, unfolding(crate::specs::Counts::counts_text))]
 pub(crate) fn push_counts(
     alloc: Global,

@@ -1,4 +1,5 @@
-//! Escapes texts, so that they can't end the code span or the table cell that they are in.
+//! Escapes texts, so that they have no character that ends the code span or the table cell that
+//! they are in. The texts are JSON or names without control characters, so they have no line feed.
 
 ghost use Rattle.std.specs.Fmt.{digit_glyph};
 ghost use Rattle.std.specs.Prelude.{◌≡◌, ◌<◌, ◌++◌, false, get_or, OnOk};
@@ -16,7 +17,7 @@ fn is_high_control(first: u8, second: u8) -> bool
 
 /// Returns whether `byte` is written as an escape: a backquote, a bar, the control character
 /// U+007F, or the second byte of a control character of two bytes. `before` is the byte before
-/// `byte`.
+/// `byte`, or 0 if there is none.
 fn is_escaped(before: u8, byte: u8) -> bool
     ensures { result ≡ is_escaped before byte }
 {
@@ -42,8 +43,8 @@ fn push_escape(out: &mut Vec<u8>, code: u8) -> Result<(), AllocError>
 }
 
 /// Appends `byte` or its escape. `before` and `after` are the bytes before and after `byte` in the
-/// text. A control character of two bytes gets a single escape: nothing is appended for its first
-/// byte, and the escape for its second byte.
+/// text, or 0 at its ends. A control character of two bytes gets a single escape: nothing is
+/// appended for its first byte, and the escape for its second byte.
 #[tactic(auto, unfolding(crate::specs::Escapes::safe_byte))]
 fn push_byte(out: &mut Vec<u8>, before: u8, byte: u8, after: u8) -> Result<(), AllocError>
     ensures { OnOk result (out.new.items ≡ out.old.items ++ safe_byte before byte after) }
@@ -67,7 +68,8 @@ fn byte_at(bytes: &[u8], i: usize) -> u8
 }
 
 /// Appends a text, with backquotes, bars and the control characters from U+007F to U+009F written
-/// as JSON escapes. So the text can't end its code span or its table cell.
+/// as JSON escapes. Backquotes and bars would end its code span or its table cell. Control
+/// characters below U+0020 are not escaped, since JSON and unquoted names have none.
 pub(crate) fn push_safe(out: &mut Vec<u8>, text: &[u8]) -> Result<(), AllocError>
     ensures { OnOk result (out.new.items ≡ out.old.items ++ safe text.now) }
 {

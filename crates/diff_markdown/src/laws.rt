@@ -2,7 +2,7 @@
 
 ghost use Rattle.diff_markdown.specs.Laws.{TextsStayInside, ValuesAreKept};
 
-/// States two laws of reports as Markdown. An escaped text has no backquote and no bar, so it can't
+/// States two laws of reports as Markdown. An escaped text has no backquote and no bar, which would
 /// end its code span or its table cell. The text written for a JSON value, nested at most as deep
 /// as the JSON reader allows, is read as the same value.
 pub fn markdown_laws()

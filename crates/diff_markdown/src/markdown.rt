@@ -15,7 +15,7 @@ use std::str::from_utf8;
 
 /// Reads `lines`, the JSON lines of a report. Appends the counts to `head` and the table rows to
 /// `rows`. Fails with `NoReport` if one of `lines` is not a line of a report, and with `Memory` if
-/// an allocation fails.
+/// an allocation fails. After an error, a part may have been appended.
 fn push_lines(
     alloc: Global,
     head: &mut Vec<u8>,
@@ -39,7 +39,7 @@ fn push_lines(
 
 /// Splits `text` into the JSON lines of a report. Appends the counts to `head` and the table rows
 /// to `rows`. Fails with `NoReport` if a line of `text` is not a line of a report, and with
-/// `Memory` if an allocation fails.
+/// `Memory` if an allocation fails. After an error, a part may have been appended.
 fn push_text(
     alloc: Global,
     head: &mut Vec<u8>,

@@ -1,4 +1,4 @@
-//! Laws of HTML pages.
+//! Laws of HTML pages. The function does nothing; its contract has the law.
 
 ghost use Rattle.std.specs.Prelude.{ℕ, List};
 ghost use Rattle.diff_page.specs.Page.{HasNoTag, untagged};

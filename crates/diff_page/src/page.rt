@@ -32,7 +32,8 @@ fn push_untagged(out: &mut Vec<u8>, text: &[u8]) -> Result<(), AllocError>
     Ok(())
 }
 
-/// Appends a JSON line with `left` and `right`, the names of the two files.
+/// Appends a JSON line of kind `files` with `left` and `right`, the names of the two files. Bytes
+/// that are not UTF-8 are written as U+FFFD.
 fn push_files(out: &mut Vec<u8>, left: &[u8], right: &[u8]) -> Result<(), AllocError>
     ensures { OnOk result (out.new.items ≡ out.old.items ++ files_object left.now right.now) }
 {
@@ -65,10 +66,10 @@ fn push_closing(out: &mut Vec<u8>) -> Result<(), AllocError>
 }
 
 /// Appends the HTML page of a report. `report` is the report as JSON lines. `left` and `right` are
-/// the names of the files.
+/// the names of the two compared files.
 ///
 /// The page contains a JSON line with the names and then the report, both without any `<`. Its
-/// script shows them in the browser.
+/// script shows them in the browser. After an error, `out` may have a part of the page.
 pub fn push_page(
     out: &mut Vec<u8>,
     left: &[u8],

@@ -1,5 +1,5 @@
-//! Writes the small parts of reports: cells, words, lists, numbers and colours. Cells and words
-//! contain no control characters, for any bytes.
+//! Writes the small parts of reports: cells, words, lists, numbers and colours. Cells and words are
+//! written without control characters, whatever bytes they have.
 #![tactic(auto)]
 
 pub mod cells;

@@ -21,8 +21,8 @@ and --sorted are for CSV alone; --missing-is-null, --no-key-is-null and
 The status is 0 where the files are the same, 1 where they differ, and 2 where
 they can't be compared.";
 
-/// Returns `arg` changed to take the values that `takes` describes. A number may be negative, and
-/// an option that takes `Texts` or a `List` may be given several times.
+/// Returns `arg`, set to accept the values that `takes` describes. A number may be negative, and an
+/// option that takes `Texts` or a `List` may be given several times.
 fn taking<'a>(arg: Arg<'a>, takes: Takes) -> Arg<'a> {
     match takes {
         Takes::Nothing => arg.action(ArgAction::SetTrue),
@@ -71,7 +71,7 @@ fn input<'a>(
         .required_unless_present("config")
 }
 
-/// Adds the positional argument that `input` creates to `command`.
+/// Adds a positional argument for an input to `command`. The other parameters are those of `input`.
 fn with_input<'a>(
     alloc: Global,
     command: Command<'a>,

@@ -28,8 +28,8 @@ pub struct Config {
     pub right: Option<String>,
 }
 
-/// Returns the error for a setting `name` if `value` has the wrong type. `takes` describes the
-/// values that the setting takes, such as `a text`.
+/// Returns the error for the setting `name`, whose `value` has the wrong type. `takes` describes
+/// the values that the setting takes, such as `a text`.
 fn misfit(name: &str, takes: &str, value: &Value) -> Error {
     trouble!("{name} takes {takes}, not this {}", value.type_str())
 }
@@ -163,9 +163,9 @@ fn push_names(words: &mut Vec<String>, alloc: Global, name: &str, value: &Value)
     Ok(())
 }
 
-/// Returns whether `bound`, which a table of bounds sets for `path`, is rather the value of the
-/// option `path`: whether there is such an option, and `bound` is no number, as text or otherwise.
-/// In TOML a line below `[tolerance]` belongs to this table.
+/// Returns whether a table of bounds such as `[tolerance]` seems to set `path` to `bound` by
+/// mistake: `path` is a name that a config file may set, and `bound` is not a number. A text
+/// without letters counts as a number. In TOML, a line below `[tolerance]` belongs to this table.
 fn is_option_below(path: &str, bound: &Value) -> bool {
     let is_number = match bound {
         Value::String(text) => !text.contains(|c: char| c.is_alphabetic()),
@@ -176,7 +176,7 @@ fn is_option_below(path: &str, bound: &Value) -> bool {
 }
 
 /// Appends the argument `--name=path=bound`, with quotes around a path that has a comma. Fails if
-/// `bound` is neither a string nor an integer, or if it is the value of an option
+/// `bound` is neither a string nor an integer, or if it seems to be the value of an option
 /// (`is_option_below`). A float is refused since reading it may have lost digits.
 fn push_bound(
     words: &mut Vec<String>,
@@ -205,7 +205,7 @@ fn push_bound(
 /// Appends an argument `--name=path=bound` for each path and bound of the table `value`, such as `{
 /// price = "0.01" }`. If `value` is not a table, it has to be an array of texts such as
 /// `"price=0.01"`, or one such text, and is appended by `push_texts`. Fails for other values, and
-/// if a bound is neither a string nor an integer.
+/// for a bound that `push_bound` refuses.
 fn push_bounds(words: &mut Vec<String>, alloc: Global, name: &str, value: &Value) -> Result<()> {
     let Some(bounds) = value.as_table() else {
         return push_texts(words, alloc, name, value);
@@ -264,9 +264,9 @@ pub(crate) fn option_near(name: &str) -> Option<&'static str> {
     near
 }
 
-/// Returns the error for `name`, which a config file sets and which is no option. A hint names a
-/// similar option, or else says what to give in place of an option of another program, if it knows
-/// either.
+/// Returns the error for `name`, which a config file sets but may not set. The hint names a similar
+/// option, or else says what to give in place of an option of another program. If there is neither,
+/// the hint says that options are set by their names.
 fn unknown(name: &str) -> Error {
     let error = trouble!("a file of options can't set {}", quoted(name));
     match (option_near(name), advice_of_name(name)) {
@@ -276,7 +276,7 @@ fn unknown(name: &str) -> Error {
     }
 }
 
-/// Fails if `table`, the content of a config file, sets a name that is unknown.
+/// Fails if `table`, the content of a config file, sets a name that it may not set (`is_known`).
 fn refuse_unknown(table: &Table) -> Result<()> {
     for (name, _) in table {
         if !is_known(name) {
@@ -402,9 +402,9 @@ fn is_other_format(line: &str) -> bool {
 }
 
 /// Returns the error for a config file whose content `text` is not TOML. `error` is the error of
-/// the TOML parser. The message begins with the number of the line, and advises what to write if
-/// the line lacks quotes or seems to be of another format. If `error` has no place in `text`, the
-/// message is `out of memory`.
+/// the TOML parser. The message begins with the number of the line. It advises what to write if the
+/// line lacks quotes, has a word such as `yes`, or seems to be of another format. If `error` has no
+/// place in `text`, the message is `out of memory`.
 fn no_table(text: &str, error: &toml::de::Error) -> Error {
     let Some(span) = error.span() else {
         return trouble!("out of memory");
@@ -445,8 +445,10 @@ fn takes_file(words: &[String]) -> bool {
 }
 
 /// Reads the config file that the command line `words` names with `--config`. Options that the
-/// command line overrides are left out. Returns empty settings if no file is named. Fails if the
-/// command does not accept `--config`, or as `read_config` does.
+/// command line overrides are left out. Returns empty settings if no file is named.
+///
+/// Fails if the command does not accept `--config`, or if the file can't be read, is not TOML, or
+/// has a wrong setting. In the latter cases the error names the file.
 pub fn config_for(rt: &HostRuntime, words: &[String]) -> Result<Config> {
     let Some(path) = file_given(words) else {
         return Ok(Config {
@@ -465,7 +467,8 @@ pub fn config_for(rt: &HostRuntime, words: &[String]) -> Result<Config> {
 }
 
 /// Returns whether `error` is about an option that the config file sets: whether the beginning of
-/// its message, up to the first colon and blank, has a word such as `--key` that names one.
+/// its message, up to the first colon and blank, has a word such as `--key` that names such an
+/// option.
 fn is_of_file(error: &Error, config: &Config) -> bool {
     for word in error.subject().split(' ') {
         if let Some(option) = word.strip_prefix("--") {

@@ -2,7 +2,7 @@
 
 use crate::options::options;
 
-/// Returns the name of the option whose short form is `letter`, or `None` if there is none.
+/// Returns the long name of the option whose short form is `letter`, or `None` if there is none.
 fn named_by(letter: char) -> Option<&'static str> {
     for option in options() {
         if option.short == Some(letter) {
@@ -14,8 +14,11 @@ fn named_by(letter: char) -> Option<&'static str> {
 
 /// Splits the command-line argument `word` into the name of its option, without hyphens, and the
 /// value after an equals sign, if there is one. For a short option, returns its long name and no
-/// value: a value written directly after it, as in `-kid`, is ignored. Returns `None` if `word` is
-/// not an option. The argument `--` gives an empty name.
+/// value: a value written directly after it, as in `-kid`, is ignored.
+///
+/// A name after two hyphens need not be the name of an option. The argument `--` gives an empty
+/// name. Returns `None` if `word` does not begin with a hyphen, or if the letter after a single
+/// hyphen is not the short form of an option.
 pub(crate) fn split_word(word: &str) -> Option<(&str, Option<&str>)> {
     let Some(option) = word.strip_prefix("--") else {
         let letter = word.strip_prefix('-')?.chars().next()?;

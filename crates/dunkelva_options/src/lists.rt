@@ -60,7 +60,7 @@ fn push_parts<'a>(parts: &mut Vec<&'a str>, list: &'a str) -> Result<(), AllocEr
 }
 
 /// Splits each of `lists` at its commas outside of quotes, and returns the parts of all lists in
-/// order.
+/// order. Empty parts are kept: an empty list has one part, which is empty.
 pub fn split_lists<'a>(alloc: Global, lists: &[&'a str]) -> Result<Vec<&'a str>, AllocError>
     ensures { IfOk result
         (λ parts. map (λ text. text.now) parts.items

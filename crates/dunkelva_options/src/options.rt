@@ -41,12 +41,13 @@ pub struct CliOption {
     pub value: &'static str,
     /// The value if the option is not given.
     pub default: Option<&'static str>,
-    /// Another option, without which this one can't be given.
+    /// Another option that has to be given with this one.
     pub needs: Option<&'static str>,
-    /// The options that can't be given together with this one.
+    /// The options that can't be given together with this one. The parser refuses them.
     pub excludes: &'static [&'static str],
-    /// The options that the command line must not have beside this one. If a config file sets one
-    /// of them, it is ignored when the command line has this one.
+    /// More options that must not be given beside this one. The parser does not check this. If a
+    /// config file sets one of them, and the command line has this one, the setting in the file is
+    /// ignored.
     pub refuses: &'static [&'static str],
     /// The kind of input files for which the option can be given.
     pub goes_with: GoesWith,

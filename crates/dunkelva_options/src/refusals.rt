@@ -35,8 +35,8 @@ fn format_advice(words: &[&str]) -> Option<&'static str> {
 }
 
 /// Returns advice if the argument at index 1 of `words`, which should be a command, seems to be the
-/// name of a file: if there is such a file, or if the next argument is no option. Otherwise returns
-/// `None`.
+/// name of a file: if there is such a file, or if the next argument is no option. Otherwise, or if
+/// there is no such argument, returns `None`.
 fn command_advice(rt: &HostRuntime, words: &[&str]) -> Option<&'static str> {
     let first = words.get(1)?;
     let is_followed = words.get(2).is_some_and(|word| !word.starts_with('-'));
@@ -83,7 +83,8 @@ const NAMES: &str =
 
 const ALIGNED: &str = "for aligned columns give --width N";
 
-/// Options of other programs, each with advice on what to give instead.
+/// Options of other programs, each with advice on what to give `dunkelva diff` or `dunkelva schema`
+/// instead.
 const OTHERS: [(&str, &str); 18] = [
     ("--json", JSON),
     ("-f", JSON),
@@ -202,8 +203,8 @@ fn advice_in(words: &[&str], others: &[(&str, &'static str)]) -> Option<&'static
     None
 }
 
-/// Returns the advice for the option `name` of another program, without its hyphens, or `None` if
-/// there is none.
+/// Returns the advice that `OTHERS_OF_DIFF` has for the option `name` of another program, or `None`
+/// if it has none. `name` has no hyphens at its beginning.
 pub(crate) fn advice_of_name(name: &str) -> Option<&'static str> {
     for (option, advice) in &OTHERS_OF_DIFF {
         if option.strip_prefix("--") == Some(name) {
