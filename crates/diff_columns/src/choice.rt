@@ -4,8 +4,8 @@ ghost use Rattle.std.specs.Prelude.{◌↔◌, Contains, IsTrue};
 ghost use Rattle.diff_columns.specs.Choice.{IsChosen};
 ghost use Rattle.diff_columns.specs.Names.{names_of};
 
-/// The names of the columns to compare. Key columns are always compared. Any other column is
-/// compared if `only` does not exclude it and `ignored` does not contain it.
+/// The names that decide which columns are compared. Key columns are always compared. Any other
+/// column is compared if `only` does not exclude it and `ignored` does not contain it.
 #[derive(Clone, Copy)]
 pub struct Choice<'a> {
     /// The names of the key columns.

@@ -32,9 +32,9 @@ pub struct Layout {
     pub right_alone: Vec<usize>,
 }
 
-/// Checks the names of the columns of two tables, `left` and `right`. Fails with `NameTwice` if two
-/// columns of a table have the same name, and with `NoKey` if a table has no column with the name
-/// of a key. The left table is checked first.
+/// Checks the column names of two tables, which are `left` and `right`. `keys` has the names of the
+/// key columns. Fails with `NameTwice` if two columns of a table have the same name, and with
+/// `NoKey` if a table has no column with the name of a key. The left table is checked first.
 fn test_names<L: ByteRows, R: ByteRows>(
     left: &L,
     right: &R,
@@ -62,8 +62,8 @@ fn test_names<L: ByteRows, R: ByteRows>(
 }
 
 /// Matches the columns of two tables by name. `left` and `right` are the names of the columns,
-/// which `test_names` must accept. `choice` selects the columns. The only error is a failed
-/// allocation.
+/// which `test_names` must accept together with the keys of `choice`. `choice` selects the columns
+/// to compare. The only error is a failed allocation.
 fn layout_of<L: ByteRows, R: ByteRows>(
     alloc: Global,
     left: &L,

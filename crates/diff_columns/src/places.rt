@@ -8,8 +8,9 @@ ghost use Rattle.diff_columns.specs.Pairs.{HasPlace};
 use polars_arrays_flat::byte_rows::ByteRows;
 use std::alloc::{AllocError, Global};
 
-/// Returns the index in `columns` of the column with the name `name`. `columns` must contain one.
-/// `names` has the names of all columns of the table.
+/// Returns the place in `columns`, a list of column indices, at which the column with the name
+/// `name` stands. `columns` must contain such a column. `names` has the names of all columns of the
+/// table.
 fn place_named<N: ByteRows>(names: &N, columns: &[usize], name: &[u8]) -> usize
     requires within { All (λ c. c < length (N.strings names.now)) columns.now }
     requires place { HasPlace (N.strings names.now) columns.now name.now }
@@ -23,8 +24,9 @@ fn place_named<N: ByteRows>(names: &N, columns: &[usize], name: &[u8]) -> usize
     unreachable!()
 }
 
-/// Returns for each of `keys` the index in `columns` of the column with this name. `columns` must
-/// contain one for each key. `names` has the names of all columns of the table.
+/// Returns for each name in `keys` the place in `columns`, a list of column indices, at which the
+/// column with this name stands. `columns` must contain such a column for each key. `names` has the
+/// names of all columns of the table.
 pub(crate) fn key_places<N: ByteRows>(
     alloc: Global,
     names: &N,

@@ -44,7 +44,8 @@ impl<R> Ends<R> {
         }
     }
 
-    /// Stores the bytes of a read in place of the earlier ones. Does nothing if `bytes` is empty.
+    /// Stores `bytes`, the bytes of a read, in place of the earlier ones, but at most `CHUNK` of
+    /// them. Does nothing if `bytes` is empty.
     fn keep(&mut self, bytes: &[u8])
         ensures { self.new.inner ≡ self.old.inner }
     {

@@ -6,7 +6,8 @@ ghost use Rattle.diff_csv.specs.Options.{is_delimiter};
 /// The options for reading a CSV text.
 #[derive(Clone, Copy)]
 pub struct CsvOptions {
-    /// The byte between two fields. It can't be a quote, a line feed or a carriage return.
+    /// The byte between two fields. `Source::open` refuses a quote, a line feed and a carriage
+    /// return.
     pub delimiter: u8,
     /// `true` if the first record has the names of the columns. `false` if the first record is a
     /// row.

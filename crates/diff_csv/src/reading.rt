@@ -57,8 +57,8 @@ fn reader_of<R: Read>(
         .from_reader(alloc, marked)
 }
 
-/// Reads the next record into `row`. Returns `true`, or `false` if there was no further record.
-/// Fails with `Read` if reading the text fails, and with `Memory` if an allocation fails.
+/// Reads the next record into `row`, and returns `true`. Returns `false` if there are no more
+/// records. Fails with `Read` if reading the text fails, and with `Memory` if an allocation fails.
 #[inline(always)]
 fn read_record<R: Read>(reader: &mut Reader<R>, row: &mut ByteRecord) -> Result<bool, CsvError>
     ensures told { IfOk result
@@ -118,7 +118,8 @@ impl<R: Read + Drop> Records<R> {
 
     /// Moves the next record into `row`. Returns the line at which the record begins, or `None` if
     /// there are no more records. Fails with `OpenQuote` if the text ends within quotes, with
-    /// `Read` if reading the text fails, and with `Memory` if an allocation fails.
+    /// `Read` if reading the text fails, and with `Memory` if an allocation fails. After `None` or
+    /// an error the results of further calls are not specified.
     pub(crate) fn read(&mut self, row: &mut Box<ByteRecord>) -> Result<Option<u64>, CsvError>
         ensures told { MatchResult result
             (λ line. (options : CsvOptions) (text : List ℕ) (rows : List (List (List ℕ)))

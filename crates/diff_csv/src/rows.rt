@@ -110,8 +110,8 @@ impl Rows {
     }
 
     /// Appends the wanted cells of the record `row` and `line`, the line at which it begins, if the
-    /// row is in the wanted part. Else does nothing. `number` is the number of the row in the text,
-    /// from 1 on. It is stored only if a part is wanted.
+    /// row is in the wanted part or no part is wanted. Else does nothing. `number` is the number of
+    /// the row in the text, from 1 on. It is stored only if a part is wanted.
     pub(crate) fn push(
         &mut self,
         row: &ByteRecord,

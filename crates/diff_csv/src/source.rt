@@ -33,9 +33,9 @@ use std::io::Read;
 pub struct CsvTable {
     /// The wanted rows, each with its cells in the wanted columns.
     pub table: Table,
-    /// The line at which each row begins. The first line is 1. Empty lines and line feeds within
-    /// quotes count as line ends. A carriage return without a line feed ends a record but not a
-    /// line.
+    /// The line at which each row begins. The first line is 1. Each line feed ends a line, even
+    /// within quotes, and empty lines are counted. A carriage return without a line feed ends a
+    /// record but not a line.
     pub lines: Vec<u64>,
     /// The number of each row among all rows of the text, from 1 on. `None` if the rows were not
     /// restricted to a part.
@@ -80,8 +80,8 @@ fn table_of(alloc: Global, rows: Rows, wanted: &Wanted<'_>) -> Result<CsvTable, 
     }
 }
 
-/// Reads all rows that `reader` returns, and collects those that are wanted. Fails as
-/// `RowReader::read` does, and with `Memory` if an allocation fails.
+/// Reads all rows that `reader` returns, and collects those that are wanted. Fails with `Length`,
+/// `OpenQuote` or `Read` as `RowReader::read` does, and with `Memory` if an allocation fails.
 fn read_rows<R: Read + Drop>(
     alloc: Global,
     mut reader: RowReader<R>,
@@ -131,11 +131,11 @@ impl<R: Drop> Drop for Source<R> {
 }
 
 impl<R: Read + Drop> Source<R> {
-    /// Opens a text and reads its first record.
+    /// Opens the text that `input` gives, and reads its first record.
     ///
     /// Fails with `Delimiter` if the delimiter is not allowed (`is_delimiter`), with `OpenQuote` if
-    /// the text ends within quotes that open in the first record, with `Read` if the reader fails,
-    /// and with `Memory` if an allocation fails.
+    /// the text ends within quotes that open in the first record, with `Read` if `input` fails, and
+    /// with `Memory` if an allocation fails.
     pub fn open(alloc: Global, input: R, options: CsvOptions) -> Result<Source<R>, CsvError>
         ensures opened { IfOk result
             (λ source. (text : List ℕ) → R.remaining input ≡ Some text
@@ -191,7 +191,8 @@ impl<R: Read + Drop> Source<R> {
         Ok(numbers)
     }
 
-    /// Returns a reader that gives the rows one after another. The only error is `Memory`.
+    /// Returns a reader of the rows, which are all records except a header. The only error is
+    /// `Memory`.
     pub fn rows(self, alloc: Global) -> Result<RowReader<R>, CsvError>
         ensures { MatchResult result
             (λ reader. (options : CsvOptions) (text : List ℕ) → IsOpen R.remaining options text self

@@ -9,6 +9,7 @@ pub struct Wanted<'a> {
     pub columns: &'a [usize],
     /// The key columns, as indices into `columns`.
     pub keys: &'a [usize],
-    /// The part whose rows are read, or `None` if all rows are read. A row is in a part by its key.
+    /// The part whose rows are read, or `None` if all rows are read. The key cells of a row decide
+    /// which part the row is in.
     pub part: Option<Part>,
 }

@@ -1,4 +1,6 @@
-//! Writes the columns in which two rows differ, as members of a JSON object.
+//! Writes the columns in which two rows differ, as members of a JSON object. The rows are compared
+//! in `Sides::compared_left` and `Sides::compared_right`, but the written cells are those of the
+//! inputs.
 
 ghost use Rattle.std.specs.Prelude.{◌≡◌, ◌<◌, ◌+◌, ◌++◌, [], if◌then◌else◌, length, codes, IfOk};
 ghost use Rattle.std.specs.Prelude.{OnOk};

@@ -10,8 +10,8 @@ use crate::numbers::push_number;
 use diff_report::sides::{Side, Sides};
 use std::alloc::AllocError;
 
-/// Appends the JSON line of a changed pair, left row `i` and right row `j`: key, row numbers, line
-/// numbers, and the cells that differ.
+/// Appends the JSON line of a changed pair, left row `i` and right row `j`: key, row numbers from 1
+/// on (`Side::number`), line numbers, and the cells that differ.
 pub fn push_pair(out: &mut Vec<u8>, sides: &Sides, i: usize, j: usize) -> Result<(), AllocError>
     requires sides { AreSides sides.now }
     requires left { i < length sides.now.left.table.rows }
@@ -30,8 +30,8 @@ pub fn push_pair(out: &mut Vec<u8>, sides: &Sides, i: usize, j: usize) -> Result
     Ok(())
 }
 
-/// Appends the JSON line of row `i` of `side`, which has no partner: key, row number and line
-/// number. `kind` is `removed` or `added`.
+/// Appends the JSON line of row `i` of `side`, which has no partner: key, row number from 1 on
+/// (`Side::number`) and line number. `kind` is `removed` or `added`.
 pub fn push_alone(
     out: &mut Vec<u8>,
     kind: &[u8],

@@ -8,7 +8,7 @@ ghost use Rattle.std.specs.Prelude.{◌≡◌, ◌<◌, ◌+◌, min};
 const BLOCK: usize = 256;
 
 /// Returns the end (exclusive) of the block that begins at row `start`: 256 rows later, but at most
-/// `count`.
+/// `count`, the number of rows.
 pub fn block_end(start: usize, count: usize) -> usize
     requires { start < count }
     ensures { result ≡ min count (start + 256) }

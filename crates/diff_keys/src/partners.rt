@@ -119,9 +119,9 @@ fn push_partners<L: ByteRows, R: ByteRows>(
 }
 
 /// Appends the partner of each left row in `start..end`, or `None`, to `found`, and removes these
-/// partners from `waiting`. Before that, it reads for all of these left rows the right rows to
-/// compare with. The reads don't depend on each other, so the processor can wait for many of them
-/// at once.
+/// partners from `waiting`. First reads, for all of these left rows, the right rows to compare
+/// with. These reads don't depend on each other, so the processor can wait for many of them at
+/// once.
 fn push_block<L: ByteRows, R: ByteRows>(
     alloc: Global,
     found: &mut Vec<Option<u32>>,

@@ -9,7 +9,7 @@ use polars_arrays_flat::byte_rows::ByteRows;
 use std::alloc::Global;
 use std::collections::HashMap;
 
-/// Two rows of a table with the same key.
+/// Two rows of a table with the same key, as row numbers from 0.
 #[derive(Clone, Copy)]
 pub struct Twice {
     /// The earlier row.

@@ -32,8 +32,8 @@ pub(crate) fn class_of(key: &[u8], count: usize) -> usize
     (key_hash(key) % count as u64) as usize
 }
 
-/// Creates the lists with all right rows, none of which has a partner yet. `keys` has the key of
-/// each right row.
+/// Returns the lists of all right rows, none of which has a partner yet. `keys` has the key of each
+/// right row.
 pub(crate) fn all_waiting<R: ByteRows>(alloc: Global, keys: &R) -> Result<Waiting, AllocError>
     requires { length (R.strings keys.now) ≤ 2 ^ 32 }
     ensures { IfOk result
@@ -65,8 +65,8 @@ impl Waiting {
 
     /// Removes the first waiting row with the key `key`, and returns it. Returns `None` if no
     /// waiting row has this key. `keys` has the key of each right row, and `class` is the class of
-    /// `key`. `guess` is a right row that is known to have the key `key`, or `None`. If `guess` is
-    /// the first row of the class, no keys are compared.
+    /// `key`. `guess` is a right row that is known to have the key `key`, or `None`; it may already
+    /// have a partner. If `guess` is the first row of the class, no keys are compared.
     #[inline(always)]
     pub(crate) fn take<R: ByteRows>(
         &mut self,

@@ -78,7 +78,7 @@ fn value_of<'a>(
 }
 
 /// Reads a line of a report, and returns its kind and its JSON value. `scratch` is the memory of
-/// the JSON reader, and can be reused for each line.
+/// the JSON reader. It can be reused for the next line once the value is dropped.
 ///
 /// Fails with `NoReport` if the line is not JSON, nests deeper than 256 levels or has no known
 /// `kind`, and with `Memory` if an allocation fails.

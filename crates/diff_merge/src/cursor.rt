@@ -58,7 +58,7 @@ pub struct Cursor<'a, R> {
 }
 
 /// Reads the next row of `reader` into `row`. Returns the line at which the row begins, or `None`
-/// if there are no more rows. Returns an error of `reader` as `Csv` with this side.
+/// if there are no more rows. The error is `Csv` with this side, also if an allocation fails.
 fn read_row<R: Read + Drop>(
     reader: &mut RowReader<R>,
     row: &mut Box<ByteRecord>,
@@ -106,7 +106,7 @@ fn test_order(
 
 impl<'a, R: Read + Drop> Cursor<'a, R> {
     /// Creates a cursor that reads the rows of `source`, and reads the first row ahead. Fails with
-    /// `Csv` if the text can't be read, and with `Memory` if an allocation fails.
+    /// `Csv` if the row can't be read, and with `Memory` if another allocation fails.
     pub fn open(
         alloc: Global,
         source: Source<R>,
@@ -164,11 +164,13 @@ impl<'a, R: Read + Drop> Cursor<'a, R> {
         }
     }
 
-    /// Moves on by one row. There must be a next row.
+    /// Passes the next row, which must exist, and reads the row after it ahead. This becomes the
+    /// next row, if there is one.
     ///
     /// Fails with `Falls` if the key of the new row is less than the key of the row before it, and
-    /// with `KeyTwice` if the keys are equal but must be unique. Fails with `Csv` if the text can't
-    /// be read, and with `Memory` if an allocation fails.
+    /// with `KeyTwice` if the keys are equal but must be unique. Fails with `Csv` if the row can't
+    /// be read, and with `Memory` if another allocation fails. After an error the results of
+    /// further calls are not specified.
     pub fn advance(&mut self) -> Result<(), MergeError>
         requires { IsSome self.old.line }
         ensures on { MatchResult result

@@ -10,10 +10,11 @@ use thiserror::Error;
 /// An error of merging two sorted texts.
 #[derive(Debug, Drop, Error)]
 pub enum MergeError {
-    /// An allocation failed.
+    /// An allocation failed, except while a record was read (see `Csv`).
     #[error("out of memory")]
     Memory,
-    /// The text on this side can't be read as CSV. `cause` has the reason.
+    /// The text on this side can't be read as CSV. `cause` has the reason, which is
+    /// `CsvError::Memory` if an allocation failed while a record was read.
     #[error("{cause}")]
     Csv { side: Side, cause: CsvError },
     /// A row of the text on this side has a lesser key than the row before it. `line` is the line

@@ -33,7 +33,8 @@ pub(crate) enum Step {
 }
 
 /// Returns the kind of the next step: the row with the lesser of the two next keys is taken, or
-/// both rows if the keys are equal.
+/// both rows if the keys are equal. If one text has no more rows, the next row of the other is
+/// taken.
 fn next_step<L: Read + Drop, R: Read + Drop>(left: &Cursor<'_, L>, right: &Cursor<'_, R>) -> Step
     ensures { IsStep (next_key left.now) (next_key right.now) result }
 {
@@ -82,8 +83,9 @@ fn take_pair<L: Read + Drop, R: Read + Drop, S: Sink>(
     Ok(())
 }
 
-/// Passes the next left row to the sink as a row without a partner, and advances the left text.
-/// Fails as `merge` does.
+/// Passes the next left row to the sink as a row without a partner, and advances the left text. The
+/// key of this row must be less than that of the next right row, if there is one. Fails as `merge`
+/// does.
 fn take_removed<L: Read + Drop, R: Read + Drop, S: Sink>(
     left: &mut Cursor<'_, L>,
     right: &Cursor<'_, R>,
@@ -112,7 +114,8 @@ fn take_removed<L: Read + Drop, R: Read + Drop, S: Sink>(
 }
 
 /// Passes the next right row to the sink as a row without a partner, and advances the right text.
-/// Fails as `merge` does.
+/// The key of this row must be less than that of the next left row, if there is one. Fails as
+/// `merge` does.
 fn take_added<L: Read + Drop, R: Read + Drop, S: Sink>(
     left: &Cursor<'_, L>,
     right: &mut Cursor<'_, R>,
@@ -183,10 +186,12 @@ fn take_step<L: Read + Drop, R: Read + Drop, S: Sink>(
 }
 
 /// Merges two texts from their current rows to their ends, and passes all these rows to the sink.
+/// The side of `left` must be `Side::Left`, and that of `right` must be `Side::Right`.
 ///
 /// Fails with `Falls` if a key is less than the key before it, with `KeyTwice` if two keys are
-/// equal but must be unique, with `Csv` if a text can't be read, and with `Memory` if an allocation
-/// fails, also one of the sink.
+/// equal but must be unique, with `Csv` if a text can't be read, and with `Memory` if another
+/// allocation fails or the sink returns an error. After an error the sink may have received some
+/// rows.
 pub fn merge<L: Read + Drop, R: Read + Drop, S: Sink>(
     left: &mut Cursor<'_, L>,
     right: &mut Cursor<'_, R>,

@@ -12,7 +12,7 @@ use polars_arrays_bytes::binary::BinaryArray;
 use polars_arrays_nested::any_array::AnyArray;
 use std::alloc::{AllocError, Global};
 
-/// Borrowed byte strings, the cells of a table.
+/// Borrowed byte strings, the cells of a table. No string is null: the array must have no validity.
 #[derive(Clone, Copy)]
 pub enum LentCells<'a> {
     /// An array with 32-bit offsets, and the buffer of its bytes, which the array shares.
@@ -33,7 +33,8 @@ pub fn all_offsets(alloc: Global, near: &[i32], far: &[i64]) -> Result<Vec<i64>,
     Ok(ends)
 }
 
-/// Clones `array`, and returns the clone as `AnyArray::Binary`. The only error is `Memory`.
+/// Clones `array`, which must have no validity. Returns the clone as `AnyArray::Binary`. The only
+/// error is `Memory`.
 fn near_array(alloc: Global, array: &BinaryArray<i32>) -> Result<AnyArray, ComputeError>
     requires { array.now.validity ≡ None }
     ensures { MatchResult result (HoldsCells false (offset_strings (λ x. x) array.now)) IsMemory }
@@ -42,7 +43,8 @@ fn near_array(alloc: Global, array: &BinaryArray<i32>) -> Result<AnyArray, Compu
     Ok(AnyArray::Binary(copy))
 }
 
-/// Clones `array`, and returns the clone as `AnyArray::LargeBinary`. The only error is `Memory`.
+/// Clones `array`, which must have no validity. Returns the clone as `AnyArray::LargeBinary`. The
+/// only error is `Memory`.
 fn far_array(alloc: Global, array: &BinaryArray<i64>) -> Result<AnyArray, ComputeError>
     requires { array.now.validity ≡ None }
     ensures { MatchResult result (HoldsCells true (offset_strings (λ x. x) array.now)) IsMemory }
@@ -51,8 +53,8 @@ fn far_array(alloc: Global, array: &BinaryArray<i64>) -> Result<AnyArray, Comput
     Ok(AnyArray::LargeBinary(copy))
 }
 
-/// Returns the strings of `array` as an array with 64-bit offsets. `bytes` is the buffer of the
-/// bytes of `array`. They are not copied if the buffer is shared. The only error is `Memory`.
+/// Returns the strings of `array` as an array with 64-bit offsets. `bytes` is the buffer with the
+/// bytes of `array`. If this buffer is shared, no bytes are copied. The only error is `Memory`.
 fn widened(
     alloc: Global,
     array: &BinaryArray<i32>,

@@ -40,8 +40,8 @@ fn same_pairs(
 }
 
 /// Returns the indices of the pairs whose two rows differ, in ascending order. Pair `p` is row
-/// `left_rows[p]` of `left` and row `right_rows[p]` of `right`. Null is equal to null. The only
-/// error is `Memory`.
+/// `left_rows[p]` of `left` and row `right_rows[p]` of `right`. Null is equal to null. `left` and
+/// `right` must have the same type. The only error is `Memory`.
 pub fn changed_pairs(
     alloc: Global,
     left: AnyArray,

@@ -1,6 +1,6 @@
-//! Finds the pairs of rows of two arrays that differ, without copying rows. The row numbers of the
-//! pairs become the keys of two dictionary arrays, whose values are the two arrays. The equality
-//! kernel compares these dictionary arrays.
+//! Finds those pairs of rows in two arrays whose two rows differ, without copying rows. The row
+//! numbers of the pairs become the keys of two dictionary arrays, whose values are the two arrays.
+//! The equality kernel compares these dictionary arrays.
 #![tactic(auto)]
 
 pub mod cells;

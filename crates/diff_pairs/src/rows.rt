@@ -50,8 +50,9 @@ fn lists_of(
 }
 
 /// Returns an array that has for each of `rows` the list of its cells. The cells have 64-bit
-/// offsets if `wide` is true, and else 32-bit offsets. `wide` must be true if `rows` has 64-bit
-/// offsets. No byte is copied if the buffers of the cells are shared. The only error is `Memory`.
+/// offsets if `wide` is true, and else 32-bit offsets. `wide` must be true if the cells of `rows`
+/// have 64-bit offsets. No byte is copied if the buffers of the cells are shared. The only error is
+/// `Memory`.
 fn list_array(
     alloc: Global,
     rows: LentRows<'_>,
@@ -71,8 +72,8 @@ fn list_array(
 
 /// Returns the indices of the pairs whose two rows have different cells, in ascending order. Pair
 /// `p` is list `left_rows[p]` of `left` (the cells of a left row) and row `right_rows[p]` of
-/// `right`. The cells of `left` have 64-bit offsets if `wide` is true, and else 32-bit offsets. The
-/// only error is `Memory`.
+/// `right`. The cells of `left` have 64-bit offsets if `wide` is true, and else 32-bit offsets.
+/// `wide` must be true if the cells of `right` have 64-bit offsets. The only error is `Memory`.
 fn changed_lists(
     alloc: Global,
     left: FixedSizeListArray,
@@ -109,8 +110,9 @@ fn changed_lists(
 }
 
 /// Returns the indices of the pairs whose two rows have different cells, in ascending order. Pair
-/// `p` is row `left_rows[p]` of `left` and row `right_rows[p]` of `right`. No byte of a cell is
-/// copied if the buffers of the cells are shared. The only error is `Memory`.
+/// `p` is row `left_rows[p]` of `left` and row `right_rows[p]` of `right`. Both tables must have
+/// the same width. No byte of a cell is copied if the buffers of the cells are shared. The only
+/// error is `Memory`.
 pub fn changed_rows(
     alloc: Global,
     left: LentRows<'_>,

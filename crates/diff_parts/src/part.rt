@@ -7,7 +7,9 @@ ghost use Rattle.diff_parts.specs.Parts.{IsPart, has_hash, in_part};
 use diff_keys::hash::key_hash;
 use std::marker::Model;
 
-/// One of the `count` parts of a table. Parts are numbered from 1 to `count` by `index`.
+/// One of the `count` parts of a table, with the number `index` from 1 to `count`. It has the rows
+/// whose key's hash (`key_hash`) leaves the remainder `index` when divided by `count`. The last
+/// part has those with the remainder 0.
 #[derive(Clone, Copy, Debug)]
 pub struct Part {
     index: u64,
@@ -47,7 +49,8 @@ impl Part {
         hash % self.count == self.index % self.count
     }
 
-    /// Returns whether rows with the encoded key `key` are in the part.
+    /// Returns whether rows with the key `key` are in the part. It must be encoded like the keys
+    /// that `keys_of` of `diff_tables` returns.
     pub fn has_key(self, key: &[u8]) -> bool
         ensures { result ≡ in_part self key.now }
     {

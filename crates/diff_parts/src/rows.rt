@@ -15,7 +15,7 @@ const EMPTY: u64 = 0xcbf2_9ce4_8422_2325;
 /// The prime by which the hash is multiplied after each byte.
 const PRIME: u64 = 0x100_0000_01b3;
 
-/// Returns the hash after adding one byte.
+/// Returns the hash of some bytes and `byte` after them. `hash` is the hash of the bytes before.
 #[inline(always)]
 fn after_byte(hash: u64, byte: u8) -> u64
     ensures { result ≡ hash_step hash byte }
@@ -59,7 +59,8 @@ fn cell_at<S: StringList>(cells: &S, column: usize) -> &[u8]
 }
 
 /// Returns the hash of the key of the row with the cells `cells`. `keys` are the indices of the key
-/// cells in `cells`. The result equals `key_hash` of the encoded key, but the key is not stored.
+/// cells in `cells`. The hash is that of the key as `keys_of` of `diff_tables` encodes it, but the
+/// key is not stored.
 fn row_hash<S: StringList>(cells: &S, keys: &[usize]) -> u64
     ensures { result ≡ key_hash (row_key keys.now (S.strings cells.now)) }
 {

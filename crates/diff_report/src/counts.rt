@@ -1,4 +1,4 @@
-//! Counts by column the changed pairs that differ in it.
+//! Counts, for each column, the changed pairs that differ in it.
 
 ghost use Rattle.std.specs.Prelude.{◌≡◌, ◌<◌, ◌-◌, ◌^◌, All, length, IfOk};
 ghost use Rattle.diff_tables.specs.Comparison.{IsComparison};
@@ -49,6 +49,7 @@ fn counts_of(
 }
 
 /// Returns, for each column, the number of changed pairs of `comparison` that differ in it.
+/// `comparison` must be the result of comparing the tables of `sides`.
 pub fn count_by_column(
     alloc: Global,
     sides: &Sides,

@@ -135,7 +135,8 @@ fn push_if_counted(
     Ok(written + 1)
 }
 
-/// Appends `By column:`, and `COLUMN COUNT` for each column whose count in `counts` is not 0.
+/// Appends `By column:`, and `COLUMN COUNT` for each column whose count in `counts` is not 0, with
+/// commas between the columns and a full stop at the end.
 fn push_by_column(
     out: &mut Vec<u8>,
     names: &BinaryArray<i64>,

@@ -86,8 +86,8 @@ fn unknown_tolerance(
     }
 }
 
-/// Returns an error for the first name in the options that is not a column of either input, or
-/// `None` if each is a column.
+/// Returns an error for the first name in the options, keys left aside, that is not a column of
+/// either input. Returns `None` if each name is a column.
 fn unknown_name(
     left: &BinaryArray<i64>,
     right: &BinaryArray<i64>,

@@ -144,7 +144,7 @@ fn with_tolerances(
 
 /// Returns the tables to compare in place of the inputs if there are no tolerances. If
 /// `options.numbers` is set, they are the tables of `tables_by`. Otherwise returns `None`: the
-/// inputs are compared unchanged.
+/// inputs are compared unchanged. The errors are those of `table_by`.
 #[tactic(auto, using(crate::proofs::ComparableLemmas::exactly))]
 fn compared_without_tolerances(
     alloc: Global,
@@ -169,7 +169,9 @@ fn compared_without_tolerances(
 
 /// Returns the tables to compare in place of the inputs if the options have `numbers` or
 /// `tolerances`. Otherwise returns `None`: the inputs are compared unchanged. `keys` are the key
-/// columns, as indices into `names`.
+/// columns, as indices into `names`. Fails with `WideExponent` if a number to compare has an
+/// exponent of more than 30 digits, with `TooManyRows` if there are tolerances and a table has more
+/// than 2^32 rows, and with `Memory` if an allocation fails.
 #[tactic(auto, using(crate::proofs::ComparableLemmas::compared))]
 pub(crate) fn compared_by(
     alloc: Global,

@@ -44,29 +44,31 @@ pub enum ChoiceError {
     /// `list`.
     #[error("neither table has a column for name {name} of the {list}")]
     NoColumn { list: NameList, name: usize },
-    /// Nothing remains to compare or report: no column, or with the option `common` only key
-    /// columns.
+    /// Nothing remains to compare or report: no column, or only key columns because the option
+    /// `common` leaves out the columns that only one input has.
     #[error("no column is left to compare")]
     NothingLeft,
 }
 
-/// An error of comparing two CSV inputs. Except for `Write`, nothing was written.
+/// An error of comparing two CSV inputs. Only if the error is `Write`, something may have been
+/// written.
 #[derive(Debug, Drop, Error)]
 pub enum RunError {
-    /// An allocation failed.
+    /// An allocation failed, except while an input was read (see `Csv`).
     #[error("out of memory")]
     Memory,
     /// A table has more than 2^32 rows.
     #[error("a table has more than 4,294,967,296 rows")]
     TooManyRows,
-    /// The input on this side can't be read as CSV.
+    /// The input on this side can't be read as CSV. `cause` has the reason, which is
+    /// `CsvError::Memory` if an allocation failed while the input was read.
     #[error("{cause}")]
     Csv {
         side: Side,
         cause: CsvError,
     },
-    /// Two rows of a table have the same key, but keys must be unique. `first` and `again` are the
-    /// lines at which the rows begin.
+    /// Two rows of the table on this side have the same key, but keys must be unique. `first` and
+    /// `again` are the lines at which the rows begin.
     #[error("the rows at lines {first} and {again} have the same key")]
     KeyTwice {
         side: Side,

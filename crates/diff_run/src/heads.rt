@@ -52,8 +52,9 @@ fn fault_of(error: ColumnError) -> RunError
     }
 }
 
-/// Reads the names of the columns of two inputs, and matches the columns by name. Fails like
-/// `heads_of`, but never with `Choice`.
+/// Reads the names of the columns of two inputs, and matches the columns by name. Fails with
+/// `Columns` if an input has a name twice or lacks a key column, and with `Memory` if an allocation
+/// fails.
 fn matched<L: Read + Drop, R: Read + Drop>(
     alloc: Global,
     left: &Source<L>,
@@ -94,9 +95,9 @@ fn matched<L: Read + Drop, R: Read + Drop>(
 
 /// Reads the names of the columns of two inputs, and matches the columns by name.
 ///
-/// Fails with `Columns` if an input has a name twice or lacks a key column, with `Choice` if the
-/// options name any other unknown column or leave nothing to compare, and with `Memory` if an
-/// allocation fails.
+/// Fails with `Columns` if an input has a name twice or lacks a key column, with `Choice` if an
+/// option besides the keys names a column that neither input has, or if nothing is left to compare,
+/// and with `Memory` if an allocation fails.
 pub fn heads_of<L: Read + Drop, R: Read + Drop>(
     alloc: Global,
     left: &Source<L>,

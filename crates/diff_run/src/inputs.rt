@@ -22,7 +22,8 @@ pub(crate) struct Both {
     pub(crate) right: CsvTable,
 }
 
-/// Opens an input and reads its first record. The error is `Csv` with this side.
+/// Opens an input and reads its first record. The error is `Csv` with this side, also if an
+/// allocation fails.
 pub fn opened<R: Read + Drop>(
     alloc: Global,
     reader: R,
@@ -42,8 +43,9 @@ pub fn opened<R: Read + Drop>(
     }
 }
 
-/// Reads the rows of an input, each with its cells in `columns`. If the options have a part, reads
-/// only the rows of this part. The error is `Csv` with this side.
+/// Reads the rows of an input, each with its cells in `columns`. `layout` has the key columns. If
+/// the options have a part, reads only the rows of this part. The error is `Csv` with this side,
+/// also if an allocation fails.
 fn read_rows<R: Read + Drop>(
     alloc: Global,
     source: Source<R>,
@@ -73,7 +75,8 @@ fn read_rows<R: Read + Drop>(
 }
 
 /// Reads the rows of two inputs, each with its cells in the columns that are compared. If the
-/// options have a part, reads only the rows of this part. The error is `Csv`.
+/// options have a part, reads only the rows of this part. The error is `Csv`, also if an allocation
+/// fails.
 pub(crate) fn read_both<L: Read + Drop, R: Read + Drop>(
     alloc: Global,
     left: Source<L>,

@@ -26,7 +26,7 @@ pub struct Options<'a> {
     /// The text of a cell that stands for no value. `None`: no cell does.
     pub null: Option<&'a [u8]>,
     /// The most differences (changed, removed and added rows together) that get a line of their
-    /// own.
+    /// own. With 0, none does, and a text report does not say how many have no line.
     pub limit: usize,
     /// `true` if columns that only one input has are neither reported nor counted as a difference.
     pub common: bool,

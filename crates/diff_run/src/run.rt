@@ -25,7 +25,7 @@ pub struct Input<'a, R> {
     pub reader: R,
 }
 
-/// Reads and compares two inputs, and returns the report.
+/// Reads and compares two inputs, and returns the report. Fails with any `RunError` except `Write`.
 fn report_on<L: Read + Drop, R: Read + Drop>(
     alloc: Global,
     left: Input<'_, L>,
@@ -53,8 +53,8 @@ fn report_on<L: Read + Drop, R: Read + Drop>(
 }
 
 /// Compares two CSV inputs, writes the report to `out`, and returns the outcome. The inputs are
-/// read completely and the report is made in memory before anything is written. So if the error is
-/// not `Write`, nothing was written.
+/// read completely and the report is made in memory before anything is written. So only if the
+/// error is `Write`, something may have been written.
 pub fn run<L: Read + Drop, R: Read + Drop, W: Write>(
     alloc: Global,
     left: Input<'_, L>,

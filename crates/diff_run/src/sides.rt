@@ -86,7 +86,9 @@ pub fn frame_of(
 
 /// Reads the rows of two inputs, and returns the two sides of their report. `heads` has the matched
 /// columns of the inputs. If the options have numbers or tolerances, the result also has the tables
-/// to compare in place of the inputs (see `compared_by`).
+/// to compare in place of the inputs (see `compared_by`). Fails with `Csv` if an input can't be
+/// read, with `WideExponent` or `TooManyRows` as `compared_by` does, and with `Memory` if another
+/// allocation fails.
 pub(crate) fn sides_of<L: Read + Drop, R: Read + Drop>(
     alloc: Global,
     left: Source<L>,

@@ -43,7 +43,7 @@ fn count_columns<L: StringList, R: StringList>(left: &L, right: &R, counts: &mut
 }
 
 /// Adds 1 to the count of each column in which two rows differ. Returns whether they differ in at
-/// least one column.
+/// least one column. `counts` must have a count for each column.
 #[tactic(auto, using(crate::proofs::CountLemmas::none_more))]
 pub fn count_changes<L: StringList, R: StringList>(
     left: &L,

@@ -45,7 +45,7 @@ fn side_of<L: StringList>(alloc: Global, name: &[u8], row: &Row<'_, L>) -> Resul
     })
 }
 
-/// Clones an array. The clone shares the bytes.
+/// Clones an array. Bytes in a shared buffer are not copied.
 fn cloned(alloc: Global, names: &BinaryArray<i64>) -> Result<BinaryArray<i64>, AllocError>
     ensures { IfOk result (λ copy. copy ≡ names.now) }
 {

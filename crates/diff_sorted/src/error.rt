@@ -8,7 +8,8 @@ use diff_run::error::RunError;
 use std::alloc::AllocError;
 use thiserror::Error;
 
-/// An error of comparing two sorted inputs. Except for a failed write, nothing was written.
+/// An error of comparing two sorted inputs. Only after a failed write, something may have been
+/// written.
 #[derive(Debug, Drop, Error)]
 pub enum SortedError {
     /// The options don't suit sorted inputs: there is no key, or they have numbers, tolerances or a
@@ -22,7 +23,7 @@ pub enum SortedError {
     /// lines at which the rows begin.
     #[error("the rows at lines {first} and {again} have one key")]
     KeyTwice { side: Side, first: u64, again: u64 },
-    /// An error that has nothing to do with the order of rows.
+    /// Any other error, as in a comparison of inputs that are not sorted.
     #[error("{cause}")]
     Run { cause: RunError },
 }

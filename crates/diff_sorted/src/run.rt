@@ -183,7 +183,8 @@ fn report_of(
     Ok(Report { text, outcome })
 }
 
-/// Compares two sorted inputs, and returns the report and the outcome.
+/// Compares two sorted inputs, and returns the report and the outcome. Fails as `run_sorted` does,
+/// but never because a write failed.
 fn report_on<L: Read + Drop, R: Read + Drop>(
     alloc: Global,
     left: Input<'_, L>,
@@ -219,8 +220,8 @@ fn report_on<L: Read + Drop, R: Read + Drop>(
 ///
 /// Fails with `Refused` if the options have no key, or have numbers, tolerances or a part. Fails
 /// with `Falls` if a row has a lesser key than the row before it, with `KeyTwice` if keys must be
-/// unique but are not, and with `Run` for all other errors. If the error is not a failed write,
-/// nothing was written.
+/// unique but are not, and with `Run` for all other errors. Only after a failed write, something
+/// may have been written.
 pub fn run_sorted<L: Read + Drop, R: Read + Drop, W: Write>(
     alloc: Global,
     left: Input<'_, L>,

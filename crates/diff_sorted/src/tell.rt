@@ -1,4 +1,4 @@
-//! Adds differences to a report: each is counted, and the first ones get a line.
+//! Adds differences to a report: each is counted, and the first `limit` of each kind get a line.
 
 ghost use Rattle.std.specs.Prelude.{◌≡◌, ◌<◌, ◌∷◌, ◌++◌, [], ℕ, List, All, length, slice_index};
 ghost use Rattle.std.specs.Prelude.{OnOk};

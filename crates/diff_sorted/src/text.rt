@@ -19,7 +19,7 @@ use polars_arrays_flat::byte_rows::ByteRows;
 use std::alloc::AllocError;
 
 impl<'a> SortedReport<'a> {
-    /// Returns the numbers of changed and of equal row pairs, and of removed and of added rows.
+    /// Returns the totals of all rows that the report has received.
     fn totals(&self) -> Totals
         ensures { (left_rows right_rows : List Seen) (s : Sides) (c : Comparison)
             → IsToldAs self.now left_rows right_rows s c → AreTotalsOf c result }

@@ -37,8 +37,8 @@ fn read_arguments<R: Env + AllocGlobal>(rt: &R) -> io::Result<Vec<String>> {
     Ok(words)
 }
 
-/// Returns the exit status for the outcome of a run. If the run stopped, first prints why to
-/// standard error.
+/// Returns the exit status for the outcome of a run (`exit_status`). If the run stopped, first
+/// prints the reason to standard error.
 fn end(rt: &impl Eprint, outcome: Result<Report, RunError>) -> u8 {
     if let Err(fault) = &outcome {
         let _ = eprintln!(rt; "{}", fault_text(fault));
@@ -52,7 +52,7 @@ const NO_LINES: Report = Report {
     refused: 0,
 };
 
-/// Prints the demo. Returns the report of a run without lines, or the error of `demo`.
+/// Prints the demo. Returns the report of a run without lines. The error is `Memory` or `Write`.
 fn print_demo(rt: &(impl Print + AllocGlobal)) -> Result<Report, RunError> {
     demo(rt.alloc(), &mut io::writer(rt))?;
     Ok(NO_LINES)
@@ -75,8 +75,8 @@ fn print_version(rt: &impl Print) -> Result<Report, RunError> {
     }
 }
 
-/// Runs the command that the arguments ask for, and returns the exit status. It is 2 if the
-/// arguments are wrong, and otherwise that of `end`.
+/// Runs the command that the arguments ask for, and returns the exit status: 2 if the arguments are
+/// wrong, 1 if a line was refused or the run stopped, and else 0.
 fn main(rt: HostRuntime) -> ExitCode {
     match asked(&read_arguments(&rt)) {
         Ok(Command::Lines) => {

@@ -14,8 +14,8 @@ use std::alloc::Global;
 use std::io::Write;
 
 /// Compares eight pairs of small nested arrays, and writes a line for each pair: which rows are
-/// equal, and how many leaves were compared. Null is equal only to null. If an allocation fails,
-/// the error is `Memory` and nothing is written.
+/// equal, and how many leaves were compared. Null is equal only to null. The error is `Write` if a
+/// write fails. If an allocation fails, the error is `Memory` and nothing is written.
 pub fn demo<W: Write>(alloc: Global, writer: &mut W) -> Result<(), RunError>
     // Writes nothing on an error, except if a write failed.
     ensures unwritten { IfErr result

@@ -254,7 +254,8 @@ pub(crate) fn write_text<W: Write>(writer: &mut W, text: &str) -> Result<(), Run
 /// Reads the whole input, and then writes the result of each line, with a line feed after it. A
 /// refused line has the result `line N: refused: WORD`, where N counts the lines from 1. Returns
 /// the number of lines and of refused lines. The error is `Read` if a read fails or the input does
-/// not end within 2^32 reads, `Write` if a write fails, or `Memory`.
+/// not end within 2^32 reads, `Write` if a write fails, or `Memory`. Only if the error is `Write`,
+/// something may have been written.
 pub fn run<R: Read, W: Write>(
     alloc: Global,
     reader: &mut R,

@@ -1,4 +1,5 @@
-//! Makes the arrays of the demo from their parts. Each array is returned in a box.
+//! Makes the arrays of the demo from their parts. Each array is returned in a box. Functions fail
+//! with `Parts` if the parts do not make an array, and with `Memory` if an allocation fails.
 
 ghost use Rattle.std.specs.Prelude.{IfOk, IfSome};
 ghost use Rattle.std.specs.List.{All};
@@ -70,8 +71,9 @@ fn row_parts(
     Ok((offsets, validity))
 }
 
-/// Creates an array of texts: text `i` is `bytes[ends[i]..ends[i + 1]]`. Row `i` is null if
-/// `present[i]` is false. Without `present`, no row is null.
+/// Creates an array of texts: text `i` is `bytes[ends[i]..ends[i + 1]]`, so `ends` begins with the
+/// start of the first text. Row `i` is null if `present[i]` is false. Without `present`, no row is
+/// null.
 pub fn texts(
     alloc: Global,
     ends: &[i32],
@@ -120,7 +122,8 @@ pub fn empty_lists(alloc: Global, present: &[bool]) -> Result<Box<AnyArray>, Fau
     boxed(alloc, AnyArray::FixedSizeList(array))
 }
 
-/// Creates a dictionary array of keys and entries. Row `i` is null if `present[i]` is false.
+/// Creates a dictionary array. Row `i` is the entry at index `keys[i]`, or null if `present[i]` is
+/// false.
 pub fn entries(
     alloc: Global,
     keys: &[u32],
@@ -156,8 +159,8 @@ fn one_buffer(alloc: Global, bytes: &[u8]) -> Result<Vec<Buffer<u8>>, Fault> {
     Ok(buffers)
 }
 
-/// Creates an array of byte strings from their views. Strings of more than 12 bytes lie in a single
-/// buffer, which has `bytes`.
+/// Creates an array of byte strings without nulls from their views. Strings of more than 12 bytes
+/// lie in a single buffer, which has `bytes`.
 pub fn strings(alloc: Global, views: &[View], bytes: &[u8]) -> Result<Box<AnyArray>, Fault>
     ensures { IfOk result (λ array. IsGood array.value) }
 {
