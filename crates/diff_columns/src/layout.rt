@@ -32,9 +32,9 @@ pub struct Layout {
     pub right_alone: Vec<usize>,
 }
 
-/// Checks the column names of two tables, which are `left` and `right`. `keys` has the names of the
-/// key columns. Fails with `NameTwice` if two columns of a table have the same name, and with
-/// `NoKey` if a table has no column with the name of a key. The left table is checked first.
+/// Checks `left` and `right`, the column names of two tables. `keys` has the names of the key
+/// columns. Fails with `NameTwice` if two columns of a table have the same name, and with `NoKey`
+/// if a table has no column with the name of a key. The left table is checked first.
 fn test_names<L: ByteRows, R: ByteRows>(
     left: &L,
     right: &R,

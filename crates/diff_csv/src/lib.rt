@@ -1,7 +1,7 @@
 //! Reads CSV texts into tables. A row of a table is a record that the `csv` crate reads, with its
-//! cells in the columns that the caller chooses. The caller can restrict the rows to those of one
-//! part (`Part` of `diff_parts`), which is chosen by the hash of the row's key. All records must
-//! have as many fields as the first one.
+//! cells in the columns that the caller chooses. The caller can restrict the rows to one part of
+//! the table (`Part` of `diff_parts`): the hash of a row's key decides which part the row is in.
+//! All records must have as many fields as the first one.
 #![tactic(auto)]
 
 mod ends;

@@ -1,6 +1,6 @@
 //! Laws about the JSON lines of a report: a JSON reader gets back the members that were written,
-//! and no line has a line feed except its last byte. The functions do nothing; their contracts are
-//! the laws.
+//! and no line has a line feed except its last byte. All numbers must be below 2^64. The functions
+//! do nothing; their contracts are the laws.
 
 ghost use Rattle.std.specs.Prelude.{◌≡◌, ◌<◌, ◌^◌, ℕ, List, Some, codes, length, slice_index};
 ghost use Rattle.json.specs.Json.{document};

@@ -164,10 +164,10 @@ impl<'a, R: Read + Drop> Cursor<'a, R> {
         }
     }
 
-    /// Passes the next row, which must exist, and reads the row after it ahead. This becomes the
-    /// next row, if there is one.
+    /// Moves past the next row, which must exist, and reads the row after it. That row, if there is
+    /// one, becomes the next row.
     ///
-    /// Fails with `Falls` if the key of the new row is less than the key of the row before it, and
+    /// Fails with `Falls` if the key of the new row is less than that of the row before it, and
     /// with `KeyTwice` if the keys are equal but must be unique. Fails with `Csv` if the row can't
     /// be read, and with `Memory` if another allocation fails. After an error the results of
     /// further calls are not specified.

@@ -10,7 +10,8 @@ use thiserror::Error;
 /// An error of merging two sorted texts.
 #[derive(Debug, Drop, Error)]
 pub enum MergeError {
-    /// An allocation failed, except while a record was read (see `Csv`).
+    /// An allocation failed, except while a record was read (see `Csv`), or the sink of a merge
+    /// returned an error.
     #[error("out of memory")]
     Memory,
     /// The text on this side can't be read as CSV. `cause` has the reason, which is

@@ -185,8 +185,8 @@ fn take_step<L: Read + Drop, R: Read + Drop, S: Sink>(
     }
 }
 
-/// Merges two texts from their current rows to their ends, and passes all these rows to the sink.
-/// The side of `left` must be `Side::Left`, and that of `right` must be `Side::Right`.
+/// Merges two texts from their next rows (`Cursor::row`) to their ends, and passes all these rows
+/// to the sink. The side of `left` must be `Side::Left`, and that of `right` must be `Side::Right`.
 ///
 /// Fails with `Falls` if a key is less than the key before it, with `KeyTwice` if two keys are
 /// equal but must be unique, with `Csv` if a text can't be read, and with `Memory` if another

@@ -62,8 +62,9 @@ impl Sink for Pairing {
     }
 }
 
-/// Matches the rows of two sorted texts by key, from their current rows to their ends. The side of
-/// `left` must be `Side::Left`, and that of `right` must be `Side::Right`. Fails as `merge` does.
+/// Matches the rows of two sorted texts by key, from their next rows (`Cursor::row`) to their ends.
+/// The side of `left` must be `Side::Left`, and that of `right` must be `Side::Right`. Fails as
+/// `merge` does.
 pub fn match_sorted<L: Read + Drop, R: Read + Drop>(
     alloc: Global,
     left: &mut Cursor<'_, L>,

@@ -49,7 +49,7 @@ impl Part {
         hash % self.count == self.index % self.count
     }
 
-    /// Returns whether rows with the key `key` are in the part. It must be encoded like the keys
+    /// Returns whether rows with the key `key` are in the part. `key` must be encoded like the keys
     /// that `keys_of` of `diff_tables` returns.
     pub fn has_key(self, key: &[u8]) -> bool
         ensures { result ≡ in_part self key.now }

@@ -118,8 +118,8 @@ fn unknown_name(
     None
 }
 
-/// Returns whether the option `common` leaves out columns of one input, and only key columns remain
-/// to compare.
+/// Returns whether the option `common` leaves out columns that only one input has, and only key
+/// columns remain to compare.
 fn key_alone(layout: &Layout, options: &Options<'_>) -> bool
     ensures { result ≡ key_alone options.now layout.now }
 {
@@ -128,7 +128,8 @@ fn key_alone(layout: &Layout, options: &Options<'_>) -> bool
 }
 
 /// Returns whether nothing remains to compare or report, although an input has columns. This is so
-/// if no column is compared and no column of one input is reported, or if `key_alone` holds.
+/// if no column is compared and no column that only one input has is reported, or if `key_alone`
+/// returns true.
 fn nothing_left(
     left: &BinaryArray<i64>,
     right: &BinaryArray<i64>,

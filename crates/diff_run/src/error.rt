@@ -50,8 +50,8 @@ pub enum ChoiceError {
     NothingLeft,
 }
 
-/// An error of comparing two CSV inputs. Only if the error is `Write`, something may have been
-/// written.
+/// An error of comparing two CSV inputs. Something may have been written only if the error is
+/// `Write`.
 #[derive(Debug, Drop, Error)]
 pub enum RunError {
     /// An allocation failed, except while an input was read (see `Csv`).

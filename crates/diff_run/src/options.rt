@@ -14,7 +14,7 @@ pub struct Options<'a> {
     /// The options for reading the inputs.
     pub csv: CsvOptions,
     /// If `Some`, numbers are compared by value in all columns except these. `None`: all cells are
-    /// compared as texts.
+    /// compared as texts, apart from `tolerances`.
     pub numbers: Option<&'a [&'a [u8]]>,
     /// The tolerances for numbers. Two cells of matched rows count as equal if one of the
     /// tolerances allows their difference. `None`: there are no tolerances.

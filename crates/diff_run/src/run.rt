@@ -53,8 +53,8 @@ fn report_on<L: Read + Drop, R: Read + Drop>(
 }
 
 /// Compares two CSV inputs, writes the report to `out`, and returns the outcome. The inputs are
-/// read completely and the report is made in memory before anything is written. So only if the
-/// error is `Write`, something may have been written.
+/// read completely and the report is made in memory before anything is written. So something may
+/// have been written only if the error is `Write`.
 pub fn run<L: Read + Drop, R: Read + Drop, W: Write>(
     alloc: Global,
     left: Input<'_, L>,

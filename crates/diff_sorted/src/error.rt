@@ -8,8 +8,8 @@ use diff_run::error::RunError;
 use std::alloc::AllocError;
 use thiserror::Error;
 
-/// An error of comparing two sorted inputs. Only after a failed write, something may have been
-/// written.
+/// An error of comparing two sorted inputs. Something may have been written only if the error is a
+/// failed write.
 #[derive(Debug, Drop, Error)]
 pub enum SortedError {
     /// The options don't suit sorted inputs: there is no key, or they have numbers, tolerances or a

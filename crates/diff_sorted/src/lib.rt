@@ -1,5 +1,5 @@
-//! Compares two CSV inputs that are sorted by key. Only a few rows of each input and the report are
-//! in memory.
+//! Compares two CSV inputs that are sorted by key. In memory are the report and only a few rows of
+//! each input.
 #![tactic(auto)]
 
 pub mod error;

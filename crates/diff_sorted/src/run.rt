@@ -215,13 +215,13 @@ fn report_on<L: Read + Drop, R: Read + Drop>(
 }
 
 /// Compares two inputs whose rows are sorted by key, byte by byte, and returns the outcome. Writes
-/// the same report as `run` of `diff_run`, but has only a few rows of each input and the lines of
-/// the report in memory.
+/// the same report as `run` of `diff_run`, but has only a few rows of each input in memory, besides
+/// the report and up to `options.limit` lines for each kind of difference.
 ///
 /// Fails with `Refused` if the options have no key, or have numbers, tolerances or a part. Fails
 /// with `Falls` if a row has a lesser key than the row before it, with `KeyTwice` if keys must be
-/// unique but are not, and with `Run` for all other errors. Only after a failed write, something
-/// may have been written.
+/// unique but are not, and with `Run` for all other errors. Something may have been written only if
+/// the error is a failed write.
 pub fn run_sorted<L: Read + Drop, R: Read + Drop, W: Write>(
     alloc: Global,
     left: Input<'_, L>,

@@ -63,7 +63,7 @@ fn make_chunk(alloc: Global) -> Result<Vec<u8>, AllocError>
 
 /// Reads once from `reader`, with `chunk` as the buffer, and appends the bytes to `input`. Returns
 /// whether the reader was at its end. If the read was interrupted, appends nothing and returns
-/// `false`. The error is `Read` or `Memory`.
+/// `false`. The error is `Read` if the read fails otherwise, or `Memory` if an allocation fails.
 fn read_once<R: Read>(
     reader: &mut R,
     chunk: &mut Vec<u8>,
@@ -254,8 +254,8 @@ pub(crate) fn write_text<W: Write>(writer: &mut W, text: &str) -> Result<(), Run
 /// Reads the whole input, and then writes the result of each line, with a line feed after it. A
 /// refused line has the result `line N: refused: WORD`, where N counts the lines from 1. Returns
 /// the number of lines and of refused lines. The error is `Read` if a read fails or the input does
-/// not end within 2^32 reads, `Write` if a write fails, or `Memory`. Only if the error is `Write`,
-/// something may have been written.
+/// not end within 2^32 reads, `Write` if a write fails, or `Memory`. Something may have been
+/// written only if the error is `Write`.
 pub fn run<R: Read, W: Write>(
     alloc: Global,
     reader: &mut R,
