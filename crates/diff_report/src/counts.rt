@@ -49,7 +49,8 @@ fn counts_of(
 }
 
 /// Returns, for each column, the number of changed pairs of `comparison` that differ in it.
-/// `comparison` must be the result of comparing the tables of `sides`.
+/// `comparison` must compare `sides.compared_left()` with `sides.compared_right()` by the key
+/// columns of `sides`.
 pub fn count_by_column(
     alloc: Global,
     sides: &Sides,
