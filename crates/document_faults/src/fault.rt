@@ -2,7 +2,7 @@
 
 use thiserror::Error;
 
-/// A fault of a line that is not a document.
+/// The reason why a line is not a document.
 #[derive(Clone, Copy, Debug, Drop, Error, PartialEq, Eq)]
 pub enum LineFault {
     /// The line is not UTF-8 or not JSON, or arrays and objects nest deeper than 128 levels.
@@ -17,7 +17,8 @@ pub enum LineFault {
     /// The line is JSON, but not an object.
     #[error("no JSON object")]
     NoObject,
-    /// The document has no value at the path of a key. `key` is the index of the key, from 0 on.
+    /// The line is a JSON object, but it has no value at the path of a key. `key` is the index of
+    /// the key, from 0 on.
     #[error("no part at key {key}")]
     NoPart { key: usize },
 }

@@ -1,6 +1,6 @@
-//! Finds the offset in a line at which its fault is, for messages. No contract says which offset
-//! this is: the `json` crate reports no offset of an error, and its contracts don't mention the
-//! offsets of tokens.
+//! Finds the place of a fault in a line, for messages. No contract says which place this is: the
+//! `json` crate reports no offset of an error, and its contracts don't mention the offsets of
+//! tokens.
 
 use crate::fault::LineFault;
 use crate::narrow::check_number;
@@ -32,8 +32,8 @@ impl Open {
         }
     }
 
-    /// Opens an object if `is_object` is `true`, and an array otherwise. Returns `false` if it is
-    /// not allowed here, or if `DEEPEST` arrays and objects are open already.
+    /// Opens an object if `is_object` is `true`, and an array otherwise. Opens nothing and returns
+    /// `false` if no value may come next, or if `DEEPEST` arrays and objects are open already.
     fn begin(&mut self, is_object: bool) -> Result<bool, AllocError> {
         if !self.takes_value(is_object) || self.are_objects.len() >= DEEPEST {
             return Ok(false);
@@ -43,13 +43,15 @@ impl Open {
         Ok(true)
     }
 
-    /// Closes an object if `is_object` is `true`, and an array otherwise. Returns `false` if this
-    /// is not allowed here.
+    /// Closes an object if `is_object` is `true`, and an array otherwise. Returns `false` if the
+    /// innermost open one is of the other kind, if none is open, or if a member lacks its value.
+    /// The state has no meaning after `false`.
     fn end(&mut self, is_object: bool) -> bool {
         !self.is_named && self.are_objects.pop() == Some(is_object)
     }
 
-    /// Updates the state for the next token. Returns `false` if the token is not allowed here.
+    /// Updates the state for the next token. Returns `false` if the token is not allowed here. The
+    /// state has no meaning after `false`.
     fn pass(&mut self, token: Token<'_>) -> Result<bool, AllocError> {
         match token {
             Token::Bad => Ok(false),
@@ -195,9 +197,9 @@ fn place_of(
     Ok(Some(place))
 }
 
-/// Returns the column of the fault in a line. Columns are counted in characters, from 1 on. If the
-/// line is not UTF-8, the result is the column of the first invalid byte. Returns `None` for
-/// `NoPart`, which has no column. `room` is memory that may be overwritten.
+/// Returns the column of `fault`, the fault of `line`. Columns are counted in characters, from 1
+/// on. If the line is not UTF-8, the result is the column of the first invalid byte. Returns `None`
+/// for `NoPart`, which has no column. `room` is memory that may be overwritten.
 pub fn column_of(
     alloc: Global,
     line: &[u8],

@@ -142,7 +142,8 @@ fn push_pair_object(
     Ok(())
 }
 
-/// Appends the line of matched pair `k`, whose documents differ.
+/// Appends the line of matched pair `k`, whose documents differ: row `matching.left_rows[k]` of the
+/// left table and row `matching.right_rows[k]` of the right table.
 fn push_pair_at(
     alloc: Global,
     out: &mut Vec<u8>,

@@ -46,9 +46,10 @@ fn push_lines(
     Ok(())
 }
 
-/// Appends the end of a report. A text report ends with the number of differences beyond `limit`
-/// (`push_rest`), the summary and the numbers of skipped lines. A JSON report ends with the line of
-/// the counts. `changed` is the number of matched pairs that differ.
+/// Appends the end of a report. A text report ends with the number of differences beyond `limit`,
+/// the summary, and how many lines were skipped. The number is left out if there are none or if
+/// `limit` is 0 (`push_rest`). A JSON report ends with the line of the counts. `changed` is the
+/// number of matched pairs that differ.
 fn push_end(
     out: &mut Vec<u8>,
     format: Format,

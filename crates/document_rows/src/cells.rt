@@ -165,7 +165,7 @@ impl Rows {
     /// line. Appends nothing if the document is not in `reading.part`.
     ///
     /// Fails with `Fault` if the line is not a document, and then appends nothing. Fails with
-    /// `Memory` if an allocation fails.
+    /// `Memory` if an allocation fails, possibly after some cells were appended.
     pub(crate) fn push(
         &mut self,
         alloc: Global,

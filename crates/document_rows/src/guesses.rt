@@ -111,8 +111,9 @@ fn are_similar(line: &[u8], other: &[u8]) -> bool {
 }
 
 /// Returns `rows` without the unlikely guesses: `rows[k]` is replaced by a number that is not a row
-/// if the line of row `rows[k]` of `table` is not similar to `lines[k]`. This also loads the lines
-/// of the remaining rows into the cache, before `push_row` compares them.
+/// if the line of row `rows[k]` of `table` is not similar to `lines[k]` (`are_similar`). The
+/// comparison also loads the lines of the remaining rows into the cache, before `push_row` compares
+/// them.
 pub(crate) fn likely_rows(
     alloc: Global,
     table: &Table,

@@ -18,7 +18,7 @@ use std::alloc::{AllocError, Global};
 /// An odd number with well mixed bits: 2^64 divided by the golden ratio.
 const SPREAD: u64 = 0x9e37_79b9_7f4a_7c15;
 
-/// The number of slots per row. With 8, few lines share a slot.
+/// The number of slots in the hash table for each row. With 8, few lines share a slot.
 const SLOTS: usize = 8;
 
 /// The known lines: those from which the rows of `table` were read. Equal lines have equal rows, so
@@ -55,7 +55,8 @@ fn mixed(number: u64, other: u64) -> u64 {
     (number ^ other).wrapping_mul(SPREAD).rotate_left(29)
 }
 
-/// Returns a hash of `start` and `line`. `line` is the end of a line, of less than 32 bytes.
+/// Returns a hash of `line`, the last bytes of a line (fewer than 32), and of `start`, the hash of
+/// the bytes before them.
 #[inline(always)]
 fn spread_short(line: &[u8], start: u64) -> u64 {
     let mut number = start;
@@ -93,7 +94,7 @@ fn slot_of(line: &[u8], count: usize) -> usize
 }
 
 impl<'a> Known<'a> {
-    /// Creates a table in which no line is known.
+    /// Creates a `Known` without lines: no line is known.
     pub(crate) fn none(alloc: Global) -> Known<'a>
         ensures { (reading : Reading) (keys : List Path) → KnowsLines reading keys result }
     {
@@ -101,7 +102,7 @@ impl<'a> Known<'a> {
         Known { table: None, slots }
     }
 
-    /// Creates a table of the lines from which the rows of `table` were read.
+    /// Creates a `Known` of the lines from which the rows of `table` were read.
     pub(crate) fn of(alloc: Global, table: &'a Table) -> Result<Known<'a>, AllocError>
         requires { HoldsDocuments table.now }
         ensures { IfOk result
@@ -145,9 +146,9 @@ impl<'a> Known<'a> {
         Ok(rows)
     }
 
-    /// Returns guesses for the complete lines at the beginning of `bytes`, but at most for `BLOCK`
-    /// lines. Returns no guesses if no line is known. Each step is done for all lines before the
-    /// next step, so that the processor can fetch memory for several lines at once.
+    /// Returns guesses for the complete lines at the beginning of `bytes`, but at most for 256
+    /// lines (`BLOCK`). Returns no guesses if no line is known. Each step is done for all lines
+    /// before the next step, so that the processor can fetch memory for several lines at once.
     pub(crate) fn guesses_for(&self, alloc: Global, bytes: &[u8]) -> Result<Guesses, AllocError>
         requires { (reading : Reading) × (keys : List Path) × KnowsLines reading keys self.now }
     {

@@ -21,7 +21,8 @@ enum Part {
 /// Appends to `line` the bytes that `reader` has buffered, up to the next line feed, and consumes
 /// them. Some are read first if none are buffered. The line feed is consumed but not appended.
 /// Returns the state of the line after that. If the read was interrupted, appends nothing and
-/// returns `Open`.
+/// returns `Open`. Fails if the read fails for another reason, and with the kind `OutOfMemory` if
+/// an allocation fails.
 fn append_part<B: BufRead>(reader: &mut B, line: &mut Vec<u8>) -> Result<Part>
     ensures { IfOk result
         (λ part. (rest : List ℕ) → B.remaining reader.old ≡ Some rest
@@ -56,7 +57,8 @@ fn append_part<B: BufRead>(reader: &mut B, line: &mut Vec<u8>) -> Result<Part>
 }
 
 /// Reads the next line into `line`, without its line feed. The previous contents of `line` are
-/// removed. Returns `false` if there are no more lines.
+/// removed. Returns `false` if there are no more lines. Fails if a read fails, and with the kind
+/// `OutOfMemory` if an allocation fails.
 pub(crate) fn read_line<B: BufRead>(reader: &mut B, line: &mut Vec<u8>) -> Result<bool>
     ensures { IfOk result
         (λ found. (rest : List ℕ) → B.remaining reader.old ≡ Some rest

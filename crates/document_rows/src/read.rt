@@ -28,8 +28,8 @@ use std::io::{BufRead, BufReader, ErrorKind, Read};
 /// The documents that were read from an input with a document on each line.
 #[derive(Drop)]
 pub struct Documents {
-    /// A row for each document. Its cells are the normal text of the value at each key, and then
-    /// the line.
+    /// A row for each document. Its cells are the normal text of the value at each key, or `null`
+    /// if there is none, and then the line.
     pub table: Table,
     /// The line number of each row. The first line is 1.
     pub lines: Vec<u64>,
@@ -125,7 +125,8 @@ fn keep_line(
 }
 
 /// Reads all lines from `reader`, and appends their rows to `rows`, which must be empty. `line`,
-/// `guesses` and `rooms` are memory that is reused.
+/// `guesses` and `rooms` are memory that is reused. The errors are those of `next_line` and
+/// `keep_line`.
 fn read_lines<R: Read + Drop>(
     alloc: Global,
     reader: &mut BufReader<R>,
@@ -169,7 +170,8 @@ fn read_lines<R: Read + Drop>(
     Err(ReadError::Memory)
 }
 
-/// Reads all lines from `reader`, and returns their rows and the numbers of the skipped lines.
+/// Reads all lines from `reader`, and returns their rows and the numbers of the skipped lines. The
+/// errors are those of `read_lines`.
 fn read_rows<R: Read + Drop>(
     alloc: Global,
     mut reader: BufReader<R>,
@@ -232,7 +234,7 @@ fn table_of(alloc: Global, rows: Rows, keys: &[Path]) -> Result<Documents, ReadE
 /// The size of the read buffer in bytes.
 const BUFFER: usize = 1 << 18;
 
-/// Wraps a reader in a buffered reader. Nothing is read yet.
+/// Wraps a reader in a buffered reader. Nothing is read yet. The only error is `Memory`.
 fn buffered<R: Read + Drop>(alloc: Global, reader: R) -> Result<BufReader<R>, ReadError>
     ensures { MatchResult result (λ b. reader_remaining R.remaining b ≡ R.remaining reader) IsStop }
 {

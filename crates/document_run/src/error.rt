@@ -18,7 +18,8 @@ pub enum DocumentError {
     /// An input has more than 2^32 documents.
     #[error("a file has more than 4,294,967,296 documents")]
     TooManyRows,
-    /// The input on this side can't be read, or has a line that is not a document.
+    /// The input on this side can't be read, memory runs out while it is read, or a line is not a
+    /// document and lines may not be skipped. `cause` says which of these.
     #[error("{cause}")]
     Read { side: Side, cause: ReadError },
     /// The input on this side has lines, but all of them were skipped because they are not

@@ -25,7 +25,8 @@ pub(crate) struct Found {
     pub(crate) changed: Vec<usize>,
 }
 
-/// Matches the documents of two inputs by their keys, and lists the matched pairs that differ.
+/// Matches the documents of two inputs by their keys, or without keys by their order. Lists the
+/// matched pairs whose lines differ, even if the difference is not to be reported.
 ///
 /// Fails with `KeyTwice` if `options.unique` is true and two documents of an input have the same
 /// key, with `TooManyRows` if an input has more than 2^32 documents, and with `Memory` if an

@@ -14,7 +14,8 @@ use diff_run::run::Input;
 use std::alloc::Global;
 use std::io::{Read, Write};
 
-/// Reads and compares two inputs, and returns the report and the outcome.
+/// Reads and compares two inputs, and returns the report and the outcome. The errors are those of
+/// `sides_of` and `report_of`.
 fn report_on<L: Read + Drop, R: Read + Drop>(
     alloc: Global,
     left: Input<'_, L>,
@@ -35,9 +36,9 @@ fn report_on<L: Read + Drop, R: Read + Drop>(
     Ok(report)
 }
 
-/// Compares two inputs of documents, writes the report to `out`, and returns the outcome. If the
-/// error is not `Write`, nothing was written: the inputs are read completely and the report is made
-/// in memory first.
+/// Compares two inputs of documents, writes the report to `out`, and returns the outcome. The
+/// inputs are read completely, and the report is made in memory, before anything is written. So
+/// after any error but `Write` nothing was written.
 pub fn run_documents<L: Read + Drop, R: Read + Drop, W: Write>(
     alloc: Global,
     left: Input<'_, L>,

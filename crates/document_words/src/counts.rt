@@ -40,8 +40,9 @@ fn push_totals(
     Ok(())
 }
 
-/// Appends the summary of a text report: a line with the numbers of changed, removed, added and
-/// equal documents. `changed` is the number of matched pairs that differ.
+/// Appends the summary of a text report: a line with the numbers of changed, removed and added
+/// documents, and of pairs without a difference to report. `changed` is the number of matched pairs
+/// that differ.
 pub fn push_summary(
     out: &mut Vec<u8>,
     matching: &Matching,

@@ -16,7 +16,7 @@ use diff_words::lists::push_gap;
 use diff_words::words::push_word;
 use std::alloc::AllocError;
 
-/// Appends `NAME=VALUE` for key `k` of row `i` of `side`.
+/// Appends `NAME=VALUE` for key `k` of row `i` of `side`. Keys and rows are counted from 0.
 fn push_key(
     out: &mut Vec<u8>,
     sides: &DocumentSides<'_>,

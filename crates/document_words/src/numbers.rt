@@ -23,8 +23,9 @@ struct ShortTens {
     down: usize,
 }
 
-/// Returns the power of ten of a numeral that is written without an exponent. Returns `None` if the
-/// numeral has a fraction, no digits, or a power of ten above 20 or below -20.
+/// Returns the power of ten of a numeral, if the numeral is to be written without an exponent.
+/// Returns `None` if it has a fraction, if it has no digits, or if its exponent is above 20 or
+/// below -20.
 fn short_tens(numeral: &Numeral<'_>) -> Option<ShortTens>
     ensures { MatchOption result (is_short numeral.now ≡ false)
         (λ t. (is_short numeral.now ≡ true) × (t.up ≡ tens_up numeral.now)

@@ -9,8 +9,7 @@ use diff_words::decimals::push_decimal;
 use diff_words::words::push_word;
 use std::alloc::AllocError;
 
-/// Returns the text that follows the number `count` of skipped lines, in the singular or the
-/// plural.
+/// Returns ` line of ` if `count` is 1, and else ` lines of `.
 fn lines_word(count: usize) -> &'static [u8]
     ensures { result.now ≡ lines_word count }
 {
@@ -21,7 +20,7 @@ fn lines_word(count: usize) -> &'static [u8]
     }
 }
 
-/// Returns the text before the number of the first skipped line, for `count` skipped lines.
+/// Returns ` (line ` if `count` is 1, and else ` (the first is line `.
 fn first_word(count: usize) -> &'static [u8]
     ensures { result.now ≡ first_word count }
 {
@@ -33,7 +32,8 @@ fn first_word(count: usize) -> &'static [u8]
 }
 
 /// Appends a line that says how many lines of the file `name` were skipped, and which was the
-/// first. `numbers` has the line numbers of the skipped lines. Appends nothing if it is empty.
+/// first. `numbers` has the line numbers of the skipped lines. Appends nothing if `numbers` is
+/// empty.
 #[tactic(auto, unfolding(crate::specs::Skipped::skipped_text))]
 fn push_skipped(out: &mut Vec<u8>, name: &[u8], numbers: &[u64]) -> Result<(), AllocError>
     ensures { OnOk result (out.new.items ≡ out.old.items ++ skipped_text name.now numbers.now) }

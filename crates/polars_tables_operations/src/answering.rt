@@ -15,8 +15,8 @@ use polars_tables_rows::row_array::RowArray;
 use polars_tables_rows::written::write_rows;
 use std::alloc::Global;
 
-// Formats the rows of `made`, the result of a kernel, as text. If `made` is an error, returns it as
-// `LineError::Memory`. The contract requires that `made` has no other error than `Memory`.
+// Formats the rows of `made`, the result of a kernel, as text. The only error is `Memory`. `made`
+// must not be another error.
 pub(crate) fn write_made<A: RowArray>(
     alloc: Global,
     made: Result<A, ComputeError>,
@@ -30,7 +30,7 @@ pub(crate) fn write_made<A: RowArray>(
     Ok(write_rows(alloc, &rows)?)
 }
 
-// Formats a count as text. The error is `Memory`.
+// Formats a count as text. The only error is `Memory`.
 pub(crate) fn write_count(alloc: Global, count: usize) -> Result<String, LineError>
     ensures { Tells string_bytes (told (Int (pos count) ∷ [])) result }
 {

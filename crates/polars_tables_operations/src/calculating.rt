@@ -15,7 +15,7 @@ use polars_compute_arithmetic::arithmetic::ArithmeticKernel;
 use std::alloc::Global;
 
 /// Applies the function `change` to each number of an array, and returns the results, wrapped to
-/// the type. Null rows stay null. The error is `Memory`.
+/// the type. Null rows stay null. The only error is `Memory`.
 pub fn change_rows<T: LineNumber>(
     alloc: Global,
     change: Change,
@@ -32,8 +32,8 @@ pub fn change_rows<T: LineNumber>(
     }
 }
 
-// Calculates with the numbers of two arrays of equal length, row by row, for calculations in which
-// the order matters. The result is null where an operand is null or the divisor is 0. The error is
+// Calculates with the numbers of two arrays of equal length, row by row. The order of the operands
+// matters. The result is null where an operand is null or the divisor is 0. The only error is
 // `Memory`.
 fn calculate_in_order<T: LineNumber>(
     alloc: Global,
@@ -57,7 +57,7 @@ fn calculate_in_order<T: LineNumber>(
 }
 
 /// Calculates with the numbers of two arrays of equal length, row by row. The result is null where
-/// an operand is null or the divisor is 0. The error is `Memory`.
+/// an operand is null or the divisor is 0. The only error is `Memory`.
 pub fn calculate_rows<T: LineNumber>(
     alloc: Global,
     calculation: Calculation,
@@ -77,9 +77,9 @@ pub fn calculate_rows<T: LineNumber>(
     }
 }
 
-// Calculates with each number of an array as the left operand and a scalar as the right one, for
-// calculations in which the order matters. The result is null where the number is null or the
-// divisor is 0. The error is `Memory`.
+// Calculates with each number of an array as the left operand, and a scalar as the right one. The
+// order of the operands matters. The result is null where the number is null or the divisor is 0.
+// The only error is `Memory`.
 fn calculate_scalar_in_order<T: LineNumber>(
     alloc: Global,
     calculation: OrderedCalculation,
@@ -101,7 +101,7 @@ fn calculate_scalar_in_order<T: LineNumber>(
 }
 
 /// Calculates with each number of an array on the left, and a scalar on the right. The result is
-/// null where the number is null or the divisor is 0. The error is `Memory`.
+/// null where the number is null or the divisor is 0. The only error is `Memory`.
 pub fn calculate_scalar<T: LineNumber>(
     alloc: Global,
     calculation: Calculation,
@@ -121,7 +121,7 @@ pub fn calculate_scalar<T: LineNumber>(
 }
 
 /// Calculates with a scalar on the left, and each number of an array on the right. The result is
-/// null where the number is null or the divisor is 0. The error is `Memory`.
+/// null where the number is null or the divisor is 0. The only error is `Memory`.
 pub fn calculate_from_scalar<T: LineNumber>(
     alloc: Global,
     calculation: OrderedCalculation,

@@ -18,8 +18,8 @@ use polars_arrays_flat::mask::Mask;
 use std::alloc::Global;
 
 // Returns a bit for each row: the result of the comparison. If the result is null, the bit has no
-// meaning. The error is `Memory`. It is never `Unsupported`, since any two arrays of the same kind
-// and length can be compared.
+// meaning. The only error is `Memory`, since any two arrays of the same kind and length can be
+// compared.
 fn compare_bits<A: KernelArray>(
     alloc: Global,
     comparison: ComparisonKind,
@@ -47,8 +47,8 @@ fn compare_bits<A: KernelArray>(
 }
 
 // Returns a bit for each row: the result of comparing the row with the scalar. If the result is
-// null, the bit has no meaning. The error is `Memory`. It is never `Unsupported`, since each of
-// these kinds of arrays can be compared with a scalar.
+// null, the bit has no meaning. The only error is `Memory`, since each of these kinds of arrays can
+// be compared with a scalar.
 fn compare_bits_scalar<A: KernelArray>(
     alloc: Global,
     comparison: ComparisonKind,
@@ -74,7 +74,7 @@ fn compare_bits_scalar<A: KernelArray>(
 }
 
 // Returns a bit for each of `n` rows, 1 if the row is present on both sides. Returns `None` if both
-// masks have no bits, so that all rows are present. The error is `Memory`.
+// masks have no bits, so that all rows are present. The only error is `Memory`.
 fn present_in_both(
     alloc: Global,
     left: &Mask<'_>,
@@ -95,7 +95,7 @@ fn present_in_both(
 
 // Returns the validity of the results of a comparison of `n` pairs of rows. Missing comparisons
 // have no null results. The result of any other comparison is null if one of the two rows is null.
-// The error is `Memory`.
+// The only error is `Memory`.
 fn validity_of(
     alloc: Global,
     comparison: ComparisonKind,
@@ -114,8 +114,8 @@ fn validity_of(
     }
 }
 
-// Makes an array of the bits of a comparison. A row is null where the comparison has no truth
-// value. The error is `Memory`.
+// Makes an array of `bits`, the results of a comparison. `left` and `right` are the masks of the
+// compared rows. They decide which results are null (`validity_of`). The only error is `Memory`.
 fn answered(
     alloc: Global,
     comparison: ComparisonKind,
@@ -137,7 +137,7 @@ fn answered(
 }
 
 /// Compares two arrays of equal length, row by row, and returns the result for each pair of rows:
-/// true, false, or null as `ComparisonKind` describes. The error is `Memory`.
+/// true, false, or null as `ComparisonKind` describes. The only error is `Memory`.
 pub fn compare_rows<A: KernelArray>(
     alloc: Global,
     comparison: ComparisonKind,
@@ -157,7 +157,7 @@ pub fn compare_rows<A: KernelArray>(
 }
 
 /// Compares each row of an array with a scalar, and returns the result for each row: true, false,
-/// or null as `ComparisonKind` describes. The error is `Memory`.
+/// or null as `ComparisonKind` describes. The only error is `Memory`.
 pub fn compare_scalar<A: KernelArray>(
     alloc: Global,
     comparison: ComparisonKind,

@@ -13,8 +13,8 @@ use polars_arrays_bits::error::ComputeError;
 use polars_arrays_flat::primitive::PrimitiveArray;
 use std::alloc::Global;
 
-/// Counts the bits of each row that belong to the group `count`, and returns the counts. Null rows
-/// stay null. The error is `Memory`.
+/// Counts in each row the bits of the group `count`, such as the 1 bits, and returns the counts.
+/// Null rows stay null. The only error is `Memory`.
 pub fn count_bits<A: KernelArray>(
     alloc: Global,
     count: BitCount,

@@ -18,7 +18,7 @@ use polars_compute_unique::primitive::PrimitiveRangedUniqueState;
 use polars_tables_rows::fault::LineError;
 use std::alloc::{AllocError, Global};
 
-// Returns the distinct rows of a state as text: numbers in ascending order, and null last. The
+// Returns the distinct rows of a state as text: numbers in ascending order, and null last. The only
 // error is `Memory`.
 #[tactic(auto, using(crate::proofs::Answered::answered))]
 fn list_distinct<T: LineNumber>(
@@ -30,8 +30,8 @@ fn list_distinct<T: LineNumber>(
     write_made(alloc, state.finalize_unique(alloc))
 }
 
-/// Returns the distinct rows of a state, or their number, as text. `asked` says which of them. The
-/// error is `Memory`.
+/// Returns the distinct rows of a state, or their number, as text. `asked` says which, and whether
+/// null counts. The only error is `Memory`.
 pub fn answer_distinct<T: LineNumber>(
     alloc: Global,
     asked: Distinct,
@@ -47,7 +47,7 @@ pub fn answer_distinct<T: LineNumber>(
 }
 
 /// Returns `true` as text if the state has seen every number of its range and a null, and otherwise
-/// `false`. The error is that memory ran out.
+/// `false`. The only error is a failed allocation.
 pub fn write_all_seen<T: LineNumber>(
     alloc: Global,
     state: &PrimitiveRangedUniqueState<T>,

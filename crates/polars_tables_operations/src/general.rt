@@ -30,8 +30,8 @@ use crate::reducing::{find_extremes, reduce};
 use polars_tables_rows::fault::LineError;
 use std::alloc::{AllocError, Global};
 
-// Compares two lists row by row, and returns the results as text. The error is `Length` if their
-// lengths differ, or `Memory`.
+// Compares two lists row by row, and returns the results as text. Fails with `Length` if their
+// lengths differ, and with `Memory` if an allocation fails.
 #[tactic(auto, using(crate::proofs::Answered::answered))]
 fn answer_rows<A: KernelArray>(
     alloc: Global,
@@ -50,8 +50,8 @@ fn answer_rows<A: KernelArray>(
 }
 
 // Compares each row of a list with a scalar, and returns the results as text. The scalar is the
-// only row of the list `scalars`. The error is `Length` if `scalars` does not have one row, `Range`
-// if this row is null, or `Memory`.
+// only row of the list `scalars`. Fails with `Length` if `scalars` does not have one row, with
+// `Range` if this row is null, and with `Memory` if an allocation fails.
 #[tactic(auto, using(crate::proofs::Answered::answered))]
 fn answer_scalar<A: KernelArray>(
     alloc: Global,
@@ -73,8 +73,8 @@ fn answer_scalar<A: KernelArray>(
 }
 
 // Compares the first of two lists with the second one, and returns the results as text. `operand`
-// says whether the second list has a row for each row or one scalar. The error is `Length` if there
-// are not two lists, or the error of the comparison.
+// says whether the second list has a row for each row or one scalar. Fails with `Length` if there
+// are not two lists. Other errors are those of `answer_rows` and `answer_scalar`.
 fn answer_comparison<A: KernelArray>(
     alloc: Global,
     comparison: ComparisonKind,
@@ -94,8 +94,9 @@ fn answer_comparison<A: KernelArray>(
     }
 }
 
-// Counts the bits of each row of a single list that belong to the group `count`, and returns the
-// counts as text. The error is `Length` if there is not exactly one list, or `Memory`.
+// Counts in each row of a single list the bits of the group `count`, and returns the counts as
+// text. Fails with `Length` if there is not exactly one list, and with `Memory` if an allocation
+// fails.
 #[tactic(auto, using(crate::proofs::Answered::answered))]
 fn answer_count<A: KernelArray>(
     alloc: Global,
@@ -112,7 +113,7 @@ fn answer_count<A: KernelArray>(
     write_made(alloc, count_bits(alloc, count, list))
 }
 
-// Formats a value as text, or `None` as `none`. The error is that memory ran out.
+// Formats a value as text, or `None` as `none`. The only error is a failed allocation.
 fn write_value<A: KernelArray>(alloc: Global, found: Option<A::Value>) -> Result<String, AllocError>
     ensures { IfOk result (λ text. string_bytes text ≡ row_or_none (option_map A.value_row found)) }
 {
@@ -123,7 +124,8 @@ fn write_value<A: KernelArray>(alloc: Global, found: Option<A::Value>) -> Result
 }
 
 // Reduces the present rows of a single list to one row, and returns it as text. Without a present
-// row the result is `none`. The error is `Length` if there is not exactly one list, or `Memory`.
+// row the result is `none`. Fails with `Length` if there is not exactly one list, and with `Memory`
+// if an allocation fails.
 fn answer_reduction<A: KernelArray>(
     alloc: Global,
     reduction: Reduction,
@@ -139,8 +141,8 @@ fn answer_reduction<A: KernelArray>(
     Ok(write_value::<A>(alloc, reduce(reduction, list))?)
 }
 
-// Formats two values as text, separated by a space, or `None` as `none`. The error is that memory
-// ran out.
+// Formats two values as text, separated by a space, or `None` as `none`. The only error is a failed
+// allocation.
 fn write_pair<A: KernelArray>(
     alloc: Global,
     found: Option<(A::Value, A::Value)>,
@@ -157,7 +159,8 @@ fn write_pair<A: KernelArray>(
 }
 
 // Returns the least and the greatest row of a single list as text. Without a present row the result
-// is `none`. The error is `Length` if there is not exactly one list, or `Memory`.
+// is `none`. Fails with `Length` if there is not exactly one list, and with `Memory` if an
+// allocation fails.
 fn answer_extremes<A: KernelArray>(alloc: Global, lists: &[A]) -> Result<String, LineError>
     ensures { Tells string_bytes
         (general_answer Extremes A.kind (map (λ a. rows_under (A.mask a) (A.slots a)) lists.now))
@@ -169,9 +172,9 @@ fn answer_extremes<A: KernelArray>(alloc: Global, lists: &[A]) -> Result<String,
     Ok(write_pair::<A>(alloc, find_extremes(list))?)
 }
 
-/// Runs an operation on rows of any type, and returns its result as text. The error is `Length` if
-/// the number of lists or their lengths don't fit the operation, `Range` if a scalar is null, or
-/// `Memory`.
+/// Runs an operation on rows of any type, and returns its result as text. Fails with `Length` if
+/// the number of lists or their lengths don't fit the operation, with `Range` if a scalar is null,
+/// and with `Memory` if an allocation fails.
 pub fn answer_general<A: KernelArray>(
     alloc: Global,
     operation: GeneralOperation,

@@ -21,7 +21,7 @@ use polars_compute_reductions::bitwise::BitwiseKernel;
 use polars_tables_rows::row_array::RowArray;
 
 /// A kind of array that has a kernel for each operation on rows of any type. The scalars of all
-/// these kernels are the values of `RowArray`.
+/// these kernels have the type `RowArray::Value`.
 pub trait KernelArray: RowArray
     + TotalEqKernel<Scalar = <Self as RowArray>::Value>
     + TotalOrdKernel<Scalar = <Self as RowArray>::Value>

@@ -1,4 +1,5 @@
-//! The operations that a line can name, on arrays of rows.
+//! The operations that a line can name, on arrays of rows. A line is a command of the program
+//! `polars_tables`, such as `add i8 1 2 | 3 null`: an operation, a type, and lists of rows.
 #![tactic(auto)]
 
 mod answering;

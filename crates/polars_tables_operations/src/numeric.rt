@@ -100,7 +100,7 @@ fn scalar_of<T: LineNumber>(scalars: PrimitiveArray<T>) -> Result<T, LineError>
 }
 
 // Applies the function `change` to each number of a single list, and returns the results as text.
-// The error is `Length` if there is not exactly one list, or `Memory`.
+// Fails with `Length` if there is not exactly one list, and with `Memory` if an allocation fails.
 #[tactic(auto, using(crate::proofs::Answered::answered))]
 fn answer_change<T: LineNumber>(
     alloc: Global,
@@ -114,8 +114,8 @@ fn answer_change<T: LineNumber>(
     write_made(alloc, change_rows(alloc, change, rows))
 }
 
-// Calculates with the numbers of two lists, row by row, and returns the results as text. The error
-// is `Length` if their lengths differ, or `Memory`.
+// Calculates with the numbers of two lists, row by row, and returns the results as text. Fails with
+// `Length` if their lengths differ, and with `Memory` if an allocation fails.
 #[tactic(auto, using(crate::proofs::Answered::answered))]
 fn answer_rows<T: LineNumber>(
     alloc: Global,
@@ -135,8 +135,8 @@ fn answer_rows<T: LineNumber>(
 }
 
 // Calculates with each number of a list on the left, and a scalar on the right, and returns the
-// results as text. The scalar is the only row of `scalars`. The error is `Length` if `scalars` does
-// not have one row, `Range` if this row is null, or `Memory`.
+// results as text. The scalar is the only row of `scalars`. Fails with `Length` if `scalars` does
+// not have one row, with `Range` if this row is null, and with `Memory` if an allocation fails.
 #[tactic(auto, using(crate::proofs::Answered::answered))]
 fn answer_scalar<T: LineNumber>(
     alloc: Global,
@@ -153,8 +153,8 @@ fn answer_scalar<T: LineNumber>(
 }
 
 // Calculates with the first of two lists and the second one, and returns the results as text.
-// `operand` says whether the second list has a number for each row or one scalar. The error is
-// `Length` if there are not two lists, or the error of the calculation.
+// `operand` says whether the second list has a number for each row or one scalar. Fails with
+// `Length` if there are not two lists. Other errors are those of `answer_rows` and `answer_scalar`.
 fn answer_calculation<T: LineNumber>(
     alloc: Global,
     calculation: Calculation,
@@ -174,8 +174,8 @@ fn answer_calculation<T: LineNumber>(
 
 // Calculates with a scalar on the left, and each number of a list on the right, and returns the
 // results as text. The scalar is the only row of the first list; the numbers are in the second
-// list. The error is `Length` if there are not two lists or the first does not have one row,
-// `Range` if the scalar is null, or `Memory`.
+// list. Fails with `Length` if there are not two lists or the first does not have one row, with
+// `Range` if the scalar is null, and with `Memory` if an allocation fails.
 #[tactic(auto, using(crate::proofs::Answered::answered))]
 fn answer_from_scalar<T: LineNumber>(
     alloc: Global,
@@ -194,7 +194,7 @@ fn answer_from_scalar<T: LineNumber>(
     )
 }
 
-// Formats the wrapped sum of the present rows as text. The error is that memory ran out.
+// Formats the wrapped sum of the present rows as text. The only error is a failed allocation.
 fn write_sum<T: LineNumber>(alloc: Global, rows: &PrimitiveArray<T>) -> Result<String, AllocError>
     ensures { IfOk result
         (λ text. string_bytes text
@@ -205,8 +205,8 @@ fn write_sum<T: LineNumber>(alloc: Global, rows: &PrimitiveArray<T>) -> Result<S
     wrapping_sum_arr(rows).to_string(alloc)
 }
 
-// Returns the wrapped sum of a single list as text. The error is `Length` if there is not exactly
-// one list, or `Memory`.
+// Returns the wrapped sum of a single list as text. Fails with `Length` if there is not exactly one
+// list, and with `Memory` if an allocation fails.
 fn answer_sum<T: LineNumber>(
     alloc: Global,
     lists: Vec<PrimitiveArray<T>>,
@@ -219,8 +219,8 @@ fn answer_sum<T: LineNumber>(
 }
 
 // Creates a state that collects distinct rows with numbers in a range, and appends the rows of the
-// second list to it. The first list has the two ends of the range. The error is `Length` if there
-// are not two lists, or an error of `state_of`.
+// second list to it. The first list has the two ends of the range. Fails with `Length` if there are
+// not two lists. Other errors are those of `state_of`.
 fn state_of_lists<T: LineNumber>(
     alloc: Global,
     lists: Vec<PrimitiveArray<T>>,
@@ -263,9 +263,10 @@ fn answer_all<T: LineNumber>(
     Ok(write_all_seen(alloc, &state)?)
 }
 
-/// Runs an operation on numbers, and returns its result as text. The error is `Length` if the
-/// number of lists or their lengths don't fit the operation, `Range` if a scalar is null, the ends
-/// of a range are wrong or a present row lies outside the range, or `Memory`.
+/// Runs an operation on numbers, and returns its result as text. Fails with `Length` if the number
+/// of lists or their lengths don't fit the operation. Fails with `Range` if a scalar is null, if
+/// the ends of a range are refused (`LineError::Range`), or if a present row lies outside the
+/// range. Fails with `Memory` if an allocation fails.
 pub fn answer_numeric<T: LineNumber>(
     alloc: Global,
     operation: NumericOperation,

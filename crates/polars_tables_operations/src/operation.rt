@@ -24,7 +24,7 @@ pub enum ComparisonKind {
 pub enum Operand {
     /// A second list. Row `i` of the first list is combined with row `i` of the second.
     Rows,
-    /// A single scalar. Each row of the list is combined with it.
+    /// A single scalar. Each row of the first list is combined with the scalar.
     Scalar,
 }
 
@@ -70,6 +70,7 @@ pub enum Change {
 }
 
 /// A calculation with two numbers that depends on their order. The result is wrapped to the type.
+/// It is null if the divisor is 0.
 #[derive(Clone, Copy, Debug, PartialEq, Eq)]
 pub enum OrderedCalculation {
     /// The left number minus the right one.
@@ -137,7 +138,8 @@ pub enum NumericOperation {
     /// the first and the last number of a range, in which all numbers of the second must lie.
     DistinctInRange(Distinct),
     /// Returns whether the second of two lists has every number of a range, and a null. The first
-    /// list has the first and the last number of the range.
+    /// list has the first and the last number of the range, in which all numbers of the second must
+    /// lie.
     HasAllOfRange,
 }
 

@@ -40,8 +40,8 @@ fn are_ends<T: LineNumber>(first: T, last: T) -> bool
 }
 
 // Creates a state that collects distinct rows with numbers from `first` to `last`, and appends
-// `rows` to it. The error is `Range` if `are_ends` is false or a present row lies outside the
-// range, or `Memory`.
+// `rows` to it. Fails with `Range` if `are_ends` is false or a present row lies outside the range,
+// and with `Memory` if an allocation fails.
 fn seen_between<T: LineNumber>(
     alloc: Global,
     first: T,
@@ -66,8 +66,9 @@ fn seen_between<T: LineNumber>(
 }
 
 /// Creates a state that collects distinct rows with numbers in a range, and appends `rows` to it.
-/// The list `ends` has the first and the last number of the range. The error is `Length` or `Range`
-/// if `ends` is not such a list, `Range` if a present row lies outside the range, or `Memory`.
+/// The list `ends` has the first and the last number of the range. Fails with `Length` if `ends`
+/// does not have two rows, with `Range` if they are refused as ends (`LineError::Range`) or a
+/// present row lies outside the range, and with `Memory` if an allocation fails.
 pub fn state_of<T: LineNumber>(
     alloc: Global,
     ends: &PrimitiveArray<T>,

@@ -14,7 +14,7 @@ use polars_compute_unique::kernel::GenericUniqueKernel;
 use polars_tables_rows::fault::LineError;
 use std::alloc::Global;
 
-// Returns the distinct rows of a list as text. The error is `Memory`.
+// Returns the distinct rows of a list as text. The only error is `Memory`.
 #[tactic(auto, using(crate::proofs::Answered::answered))]
 fn list_distinct(alloc: Global, list: &BooleanArray) -> Result<String, LineError>
     ensures { Tells string_bytes (truths_answer Listed (truth_rows list.now ∷ [])) result }
@@ -22,8 +22,8 @@ fn list_distinct(alloc: Global, list: &BooleanArray) -> Result<String, LineError
     write_made(alloc, list.unique(alloc))
 }
 
-/// Returns the distinct rows of a single list, or their number, as text. The error is `Length` if
-/// there is not exactly one list, or `Memory`.
+/// Returns the distinct rows of a single list, or their number, as text. Fails with `Length` if
+/// there is not exactly one list, and with `Memory` if an allocation fails.
 pub fn answer_truths(
     alloc: Global,
     asked: Distinct,

@@ -51,8 +51,8 @@ impl<T: Drop> From<AllocFailed<T>> for LineError {
     }
 }
 
-/// Converts an error of `answer` to `LineError::Memory`. The contract requires that `answer` has no
-/// other error than `ComputeError::Memory`.
+/// Returns the value in `answer`, or `LineError::Memory` if `answer` is an error. That error must
+/// be `ComputeError::Memory`.
 pub fn or_memory<X>(answer: Result<X, ComputeError>) -> Result<X, LineError>
     requires { IfErr answer IsMemory }
     ensures answered { IfOk result (λ x. answer ≡ Ok x) }

@@ -1,5 +1,6 @@
 //! Parses the lists of rows in a line into arrays, and formats arrays as text. Also the reasons for
-//! refusing a line.
+//! refusing a line. A line is a command of the program `polars_tables`, such as `add i8 1 2 | 3
+//! null`: an operation, a type, and lists of rows.
 #![tactic(auto)]
 
 pub mod fault;

@@ -36,7 +36,7 @@ pub trait RowArray: Array + Sized + Drop {
     // The row that has a given value.
     ghost value_row: { Self.Value → Row };
 
-    /// Creates an array of values. Row `i` is null if bit `i` of `present` is 0. The error is
+    /// Creates an array of values. Row `i` is null if bit `i` of `present` is 0. The only error is
     /// `Memory`.
     fn from_values(
         alloc: Global,

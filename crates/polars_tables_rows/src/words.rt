@@ -72,8 +72,8 @@ fn stored_value<V: Copy + Default>(row: Option<V>) -> V
     }
 }
 
-/// Creates the array of the parsed rows. Row `i` is null if bit `i` of `present` is 0. The error is
-/// `Memory`.
+/// Creates the array of the parsed rows. Row `i` is null if bit `i` of `present` is 0. The only
+/// error is `Memory`.
 fn make_array<A: RowArray>(
     alloc: Global,
     values: Vec<A::Value>,
@@ -92,8 +92,8 @@ fn make_array<A: RowArray>(
 const ROOM: usize = 16;
 
 /// Parses the first list of rows in a text. Returns its array, and the rest of the text after the
-/// bar that ends the list, or `None` if no bar ends it. The error is `Row` if a word of the list is
-/// not a row of the type, or `Memory`.
+/// bar that ends the list, or `None` if no bar ends it. Fails with `Row` if a word of the list is
+/// not a row of the type, and with `Memory` if an allocation fails.
 fn parse_list<'a, A: RowArray>(
     alloc: Global,
     text: &'a str,
@@ -138,9 +138,9 @@ fn are_rows<A: RowArray>(text: &str) -> bool
     true
 }
 
-/// Parses all lists of rows in a text, which are separated by bars. The error is `Row` if a word is
-/// neither a bar nor a row of the type, and otherwise `Length` if there are more than `most` lists.
-/// It is `Memory` if memory runs out first.
+/// Parses all lists of rows in a text, which are separated by bars. Fails with `Row` if a word is
+/// neither a bar nor a row of the type, and otherwise with `Length` if there are more than `most`
+/// lists. Fails with `Memory` if an allocation fails first.
 ///
 /// For example, the text `1 null | 2` has two lists, one of two rows and one of one row.
 pub fn parse_lists<A: RowArray>(alloc: Global, most: usize, text: &str) -> Result<Vec<A>, LineError>

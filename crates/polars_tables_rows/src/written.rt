@@ -8,7 +8,7 @@ ghost use Rattle.polars_tables_rows.specs.Written.{row_word, row_words};
 use crate::row_array::RowArray;
 use std::alloc::{AllocError, Global};
 
-/// Appends row `i` to a text: its value, or `null`. The error is that memory ran out.
+/// Appends row `i` to a text: its value, or `null`. The only error is a failed allocation.
 fn push_row<A: RowArray>(text: &mut String, array: &A, i: usize) -> Result<(), AllocError>
     requires { i < length (A.slots array.now) }
     ensures { OnOk result
@@ -24,8 +24,8 @@ fn push_row<A: RowArray>(text: &mut String, array: &A, i: usize) -> Result<(), A
 /// The initial capacity of a text of rows in bytes, so that a short text never grows.
 const ROOM: usize = 64;
 
-/// Formats the rows of an array as text: values and `null`, separated by single spaces. The error
-/// is that memory ran out.
+/// Formats the rows of an array as text: values and `null`, separated by single spaces. The only
+/// error is a failed allocation.
 pub fn write_rows<A: RowArray>(alloc: Global, array: &A) -> Result<String, AllocError>
     ensures { IfOk result
         (λ text. string_bytes text

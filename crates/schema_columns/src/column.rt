@@ -103,8 +103,8 @@ fn whole_values(alloc: Global, cells: &BinaryArray<i64>) -> Result<Values, Compu
 
 /// Returns the number of different values in `cells`, and the least and the greatest of them.
 /// Integers and numbers are compared by value, all others as bytes. All cells must be of the kind
-/// `kind`. All fields are `None` if a number has an exponent of more than 30 digits. The only error
-/// is `Memory`.
+/// `kind`. All fields are `None` if `kind` is `Number` and a cell has an exponent of more than 30
+/// digits. The only error is `Memory`.
 fn values_of(alloc: Global, cells: &BinaryArray<i64>, kind: Kind) -> Result<Values, ComputeError>
     requires plain { cells.now.validity ≡ None }
     requires all { AreOf kind (offset_strings (λ x. x) cells.now) }
@@ -120,8 +120,9 @@ fn values_of(alloc: Global, cells: &BinaryArray<i64>, kind: Kind) -> Result<Valu
     }
 }
 
-/// Returns the schema of a column of a table. `name` is the name of the column. A cell that equals
-/// `null` is null; with `None` no cell is null. The only error is `Memory`.
+/// Returns the schema of column `column` of a table, counted from 0. `name` is the name of the
+/// column. A cell that equals `null` is null; with `None` no cell is null. The only error is
+/// `Memory`.
 pub fn schema_of(
     alloc: Global,
     name: &[u8],

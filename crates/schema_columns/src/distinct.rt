@@ -56,8 +56,9 @@ fn count_by_state(
     Ok(state.finalize_n_unique_non_null())
 }
 
-/// Returns the number of different integers in `numbers`. `ends` are the least and the greatest of
-/// them. The only error is `Memory`.
+/// Returns the number of different integers in `numbers`. `ends` has the least and the greatest of
+/// them, or `None` if `numbers` is empty. It only decides how they are counted. The only error is
+/// `Memory`.
 pub(crate) fn count_numbers(
     alloc: Global,
     numbers: Vec<i64>,

@@ -55,7 +55,8 @@ pub(crate) fn ends_of_strings(alloc: Global, cells: &BinaryArray<i64>) -> Result
     Ok(Ends { least, greatest })
 }
 
-/// Returns the least and the greatest number, given in `ends`, as decimal texts.
+/// Returns the two numbers in `ends`, the least and the greatest, as decimal texts. Both texts are
+/// `None` if `ends` is `None`.
 pub(crate) fn ends_of_numbers(alloc: Global, ends: Option<(i64, i64)>) -> Result<Ends, AllocError>
     ensures { IfOk result
         (λ texts. (option_map (λ v. v.items) texts.least

@@ -18,7 +18,7 @@ pub enum Kind {
     Empty,
     /// `true` or `false`.
     Truth,
-    /// Integers from -2^63 to 2^63 - 1, without a point or an exponent.
+    /// Integers in JSON syntax, from -2^63 to 2^63 - 1, without a point or an exponent.
     Whole,
     /// Numbers in JSON syntax.
     Number,
@@ -107,7 +107,7 @@ fn all_pass<T: CellTest>(cells: &BinaryArray<i64>) -> bool
     true
 }
 
-/// Returns the narrowest kind that fits all cells.
+/// Returns the narrowest kind that fits all cells. Without cells, this is `Empty`.
 pub fn kind_of(cells: &BinaryArray<i64>) -> Kind
     ensures { IsNarrowest (offset_strings (λ x. x) cells.now) result }
 {

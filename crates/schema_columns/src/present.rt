@@ -69,8 +69,9 @@ impl Gathered {
     }
 }
 
-/// Returns the values of a column, and the numbers of its null and missing cells. A cell that
-/// equals `null` is null, and any other empty cell is missing. The only error is `Memory`.
+/// Returns the values of column `column`, counted from 0, and the numbers of its null and missing
+/// cells. A cell that equals `null` is null, and any other empty cell is missing. The only error is
+/// `Memory`.
 pub fn present_cells(
     alloc: Global,
     table: &Table,

@@ -18,7 +18,8 @@ use schema_paths::paths::PathSchema;
 use schema_report::words::{push_count, push_value};
 use std::alloc::{AllocError, Global};
 
-/// Appends the headings of the first columns: the path, and the numbers of null and missing values.
+/// Appends the headings of the first columns: the path, the number of null values, and the number
+/// of documents without a value at the path.
 fn push_head_names(cells: &mut Strings) -> Result<(), AllocError>
     ensures { OnOk result
         ((all : List (List ℕ)) → AreStrings cells.old all
@@ -87,8 +88,8 @@ fn push_number(cells: &mut Strings, room: &mut Vec<u8>, n: usize) -> Result<(), 
     Ok(())
 }
 
-/// Appends the path, and the numbers of null and missing values. `room` is memory that is
-/// overwritten.
+/// Appends the path, the number of null values, and the number of documents without a value at the
+/// path. `room` is memory that is overwritten.
 fn push_head(cells: &mut Strings, room: &mut Vec<u8>, path: &PathSchema) -> Result<(), AllocError>
     ensures { OnOk result
         ((all : List (List ℕ)) → AreStrings cells.old all

@@ -6,9 +6,9 @@ ghost use Rattle.schema_documents.specs.Changes.{AreJoined, joined, kind_words, 
 use schema_paths::paths::PathSchema;
 use std::alloc::AllocError;
 
-/// Appends `word`, the name of a kind, unless `count`, the number of values of this kind, is 0. If
-/// `some` is true, a name was appended before, and the text `between` is appended before `word`.
-/// Returns whether any name has been appended by now.
+/// Appends `word`, the name of a kind, if `count`, the number of values of this kind, is not 0.
+/// `some` says whether another name was appended before; then `between` is appended before `word`.
+/// Returns the value of `some` for the next kind.
 fn push_kind(
     out: &mut Vec<u8>,
     between: &[u8],

@@ -1,4 +1,4 @@
-//! Writes the schema of documents in either form.
+//! Writes the schema of documents, as text or as JSON lines.
 
 ghost use Rattle.std.specs.Prelude.{◌≡◌, ◌++◌, ℕ, List, Some, IfErr, OnOk};
 ghost use Rattle.schema_paths.specs.Errors.{IsMemory, IsSchemaFault};
@@ -38,7 +38,11 @@ fn push_form(
 
 /// Reads an input with a document on each line, and appends the schema of the documents in the form
 /// `form`. `file` is the name of the input. If `skip_bad` is set, lines that are not documents are
-/// skipped. Fails with the errors of `read_document_schema` of `schema_paths`.
+/// skipped.
+///
+/// Fails with `Read` if the documents can't be read (`cause` says why), and with `AllSkipped` if
+/// there are lines, but all of them were skipped. In these two cases nothing was appended. Fails
+/// with `Memory` if a later allocation fails.
 pub fn push_schema_of<R: Read + Drop>(
     alloc: Global,
     out: &mut Vec<u8>,

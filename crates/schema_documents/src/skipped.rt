@@ -1,4 +1,4 @@
-//! Writes the numbers of lines that were skipped because they are not documents.
+//! Writes how many lines were skipped because they are not documents.
 
 ghost use Rattle.std.specs.Prelude.{◌≡◌, ◌++◌, OnOk};
 ghost use Rattle.document_words.specs.Skipped.{first_word, lines_word, skipped_members};

@@ -25,7 +25,7 @@ fn documents_word(count: usize) -> &'static [u8]
     }
 }
 
-/// Returns ` path` if `count` is 1, and else ` paths`. A line feed follows.
+/// Returns ` path` if `count` is 1, and else ` paths`, with a line feed at the end.
 fn paths_word(count: usize) -> &'static [u8]
     ensures { result.now ≡ paths_word count }
 {

@@ -13,7 +13,8 @@ use diff_columns::error::Side;
 use schema_values::part::SchemaPart;
 use std::alloc::AllocError;
 
-/// The numbers of parts that differ or not, after the parts of two schemas were matched by name.
+/// The numbers of changed, removed, added and unchanged parts of two schemas. Parts are matched by
+/// name.
 #[derive(Clone, Copy, Debug, PartialEq, Eq)]
 pub struct SchemaCounts {
     /// The number of parts in both schemas with different kinds.

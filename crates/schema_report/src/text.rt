@@ -20,7 +20,7 @@ fn rows_word(count: usize) -> &'static [u8]
     if count == 1 { b" row, " } else { b" rows, " }
 }
 
-/// Returns ` column` if `count` is 1, and else ` columns`. A line feed follows.
+/// Returns ` column` if `count` is 1, and else ` columns`, with a line feed at the end.
 fn columns_word(count: usize) -> &'static [u8]
     ensures { result.now ≡ columns_word count }
 {

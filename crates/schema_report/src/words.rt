@@ -11,7 +11,7 @@ use diff_words::words::push_word;
 use schema_columns::kind::Kind;
 use std::alloc::AllocError;
 
-/// Returns the name of a kind.
+/// Returns the name of a kind in a report, such as `whole number`.
 pub(crate) fn kind_word(kind: Kind) -> &'static [u8]
     ensures { result.now ≡ kind_word kind }
 {

@@ -1,4 +1,4 @@
-//! Reads a CSV text, and writes the schema of its columns.
+//! Reads a CSV text, and writes the schema of its columns, as text or as JSON lines.
 #![tactic(auto)]
 
 pub mod read;

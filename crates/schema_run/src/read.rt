@@ -57,8 +57,9 @@ fn names_in<R: Read + Drop>(alloc: Global, source: &Source<R>) -> Result<BinaryA
     }
 }
 
-/// Returns the schema of a column of a table. `name` is the name of the column. A cell that equals
-/// `null` is null; with `None` no cell is null. The only error is `Memory`.
+/// Returns the schema of column `column` of a table, counted from 0. `name` is the name of the
+/// column. A cell that equals `null` is null; with `None` no cell is null. The only error is
+/// `Memory`.
 fn column_schema(
     alloc: Global,
     name: &[u8],
@@ -99,8 +100,11 @@ fn schemas_of(
 }
 
 /// Reads a CSV text from `input`, and returns the number of its rows and the schemas of its
-/// columns. A cell that equals `null` is null; with `None` no cell is null. Fails with the errors
-/// of `Source::open` and `Source::read` of `diff_csv`.
+/// columns. A cell that equals `null` is null; with `None` no cell is null.
+///
+/// Fails with `Delimiter` if the delimiter of `options` is not allowed, with `OpenQuote` if the
+/// text ends within quotes, with `Length` if a record has not as many fields as the first one, with
+/// `Read` if the reader fails, and with `Memory` if an allocation fails.
 pub fn read_schema<R: Read + Drop>(
     alloc: Global,
     input: R,

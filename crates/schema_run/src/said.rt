@@ -1,4 +1,4 @@
-//! Writes the schema of a CSV text in either form.
+//! Writes the schema of a CSV text, as text or as JSON lines.
 
 ghost use Rattle.std.specs.Option.{option_copied};
 ghost use Rattle.std.specs.Prelude.{◌≡◌, ◌++◌, ℕ, List, Some, IfErr, OnOk};
@@ -19,7 +19,7 @@ use std::io::Read;
 pub enum Form {
     /// Lines of text, in aligned columns.
     Text,
-    /// JSON lines, one for each column.
+    /// JSON lines, one for each column of a table or path of documents.
     Json,
 }
 
@@ -49,7 +49,7 @@ pub fn push_form(
 
 /// Reads a CSV text from `input`, and appends the schema of its columns in the form `form`. `file`
 /// is the name of the text's file. A cell that equals `null` is null; with `None` no cell is null.
-/// Fails with the errors of `Source::open` and `Source::read` of `diff_csv`.
+/// The errors are those of `read_schema`. If the error is not `Memory`, nothing was appended.
 pub fn push_schema_of<R: Read + Drop>(
     alloc: Global,
     out: &mut Vec<u8>,

@@ -20,9 +20,9 @@ use polars_arrays_bytes::binary::BinaryArray;
 use polars_arrays_flat::byte_rows::ByteRows;
 use std::alloc::{AllocError, Global};
 
-/// The number of different values, and the least and the greatest of them. `distinct` is `None` if
-/// it is not known. `least` and `greatest` are `None` if they are not known, or if there are no
-/// values.
+/// The number of different values, and the least and the greatest of them. `least` and `greatest`
+/// are `None` if there are no values. All fields are `None` if the values are numbers and one has
+/// an exponent of more than 30 digits.
 #[derive(Drop)]
 pub struct Values {
     /// The number of different values.

@@ -1,4 +1,5 @@
-//! Finds the least and the greatest number.
+//! Finds the least and the greatest number. All numbers must be in JSON syntax, with exponents of
+//! at most 30 digits (`IsNarrow`).
 
 ghost use Rattle.std.specs.List.{All};
 ghost use Rattle.std.specs.Prelude.{◌≡◌, ◌<◌, false, length, get_or, [], if◌then◌else◌};
