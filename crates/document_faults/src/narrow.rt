@@ -12,9 +12,9 @@ use json_decimals::numbers::push_normal_number;
 /// The most digits that an exponent may have, leading zeros not counted.
 const MOST_DIGITS: usize = 30;
 
-/// Checks that the exponent of a number has at most 30 digits, and fails with `WideExponent` if
-/// not, or with `Memory` if an allocation fails. `room` is memory that may be overwritten. A text
-/// of at most 30 bytes needs no further check.
+/// Checks that the exponent of the number `text` has at most 30 digits, and fails with
+/// `WideExponent` if not, or with `Memory` if an allocation fails. `room` is memory that may be
+/// overwritten. A text of at most 30 bytes needs no further check.
 pub(crate) fn check_number(room: &mut Vec<u8>, text: &str) -> Result<(), NumberError>
     ensures { TellsNarrow result (¬ HasWideExponent text.now) }
 {

@@ -31,8 +31,8 @@ fn copied(alloc: Global, names: &[&[u8]]) -> Result<Vec<Vec<u8>>, AllocError>
 /// copied from `options`.
 ///
 /// Fails with `Read` if reading the documents of an input fails, with `Memory` if a name can't be
-/// copied, and with `AllSkipped` if an input has lines but all of them were skipped. `AllSkipped`
-/// is not returned if only a part of the documents is read.
+/// copied, and with `AllSkipped` if an input has lines but all of them were skipped. Never fails
+/// with `AllSkipped` if `options.reading` has a part, since a part may have no documents.
 pub(crate) fn sides_of<'a, L: Read + Drop, R: Read + Drop>(
     alloc: Global,
     left: Input<'_, L>,

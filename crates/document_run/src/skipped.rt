@@ -16,7 +16,7 @@ fn none_kept(read: &ReadSide) -> bool
 }
 
 /// Checks that not all lines of an input were skipped, and fails with `AllSkipped` if they were.
-/// Does not check if only a part is read, since a part may have no documents.
+/// Checks nothing if `options.reading` has a part, since a part may have no documents.
 pub(crate) fn test_kept(
     read: &ReadSide,
     options: &DocumentOptions<'_>,

@@ -4,7 +4,8 @@ use diff_report::sides::Side;
 use json_changes::changes::Rules;
 
 /// Two files of documents, and the names and options for their report. Each row of a table has a
-/// cell with the normal text of the value at each key, and then a cell with the line.
+/// cell with the normal text of the value at each key, or `null` if there is none, and then a cell
+/// with the line.
 #[derive(Drop)]
 pub struct DocumentSides<'a> {
     pub left: Side,

@@ -66,8 +66,8 @@ impl SchemaPart for ColumnSchema {
     }
 }
 
-/// Returns the number of different byte strings in `cells`, and the least and the greatest of them.
-/// The only error is `Memory`.
+/// Returns the number of different byte strings in `cells`, and the least and the greatest of them,
+/// compared byte by byte. The only error is `Memory`.
 fn string_values(alloc: Global, cells: &BinaryArray<i64>) -> Result<Values, ComputeError>
     requires { cells.now.validity ≡ None }
     ensures { MatchResult result

@@ -88,8 +88,8 @@ fn count_alone<S: SchemaPart>(others: &[S], parts: &[S]) -> usize
     count
 }
 
-/// Returns how many of `parts` have different kinds than the first part with the same name among
-/// `others`.
+/// Returns how many of `parts` have other kinds than the first part with the same name among
+/// `others`. Parts without such a part are not counted.
 fn count_changed<S: SchemaPart>(others: &[S], parts: &[S]) -> usize
     ensures { result ≡ count_by (is_changed S.name_of S.same_kinds others.now) parts.now }
 {
@@ -119,7 +119,8 @@ pub fn counts_of<S: SchemaPart>(left: &[S], right: &[S]) -> SchemaCounts
 }
 
 /// Appends the text about `part`, a part of the left schema, if no part of `right` has the same
-/// name, or if the first such part has different kinds.
+/// name, or if the first part of `right` with this name has different kinds. Otherwise appends
+/// nothing.
 fn push_change<S: SchemaPart, F: ChangeForm<S>>(
     out: &mut Vec<u8>,
     form: &F,
