@@ -28,14 +28,14 @@ pub(crate) struct Negation;
 #[derive(Drop)]
 pub(crate) struct Magnitude;
 
-/// The function of a left number that applies an operation with a constant right number.
+/// The function that applies `operation` to a given left number and the constant `right`.
 #[derive(Drop)]
 pub(crate) struct WithRight<T, O> {
     pub operation: O,
     pub right: T,
 }
 
-/// The function of a right number that applies an operation with a constant left number.
+/// The function that applies `operation` to the constant `left` and a given right number.
 #[derive(Drop)]
 pub(crate) struct WithLeft<T, O> {
     pub operation: O,

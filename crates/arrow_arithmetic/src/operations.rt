@@ -39,7 +39,7 @@ pub(crate) struct FloorQuotient;
 #[derive(Drop)]
 pub(crate) struct TruncatedQuotient;
 
-/// The remainder of division, where the quotient is rounded down.
+/// The remainder of the division that rounds the quotient down.
 #[derive(Drop)]
 pub(crate) struct Modulus;
 

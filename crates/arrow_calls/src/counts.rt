@@ -16,9 +16,9 @@ use std::alloc::Global;
 
 /// Counts the bits that `counting` selects in each of `values`, the numbers of a part, and writes
 /// the counts into `counts`. The validity of the counts is that of the part, and the count of a
-/// null row is arbitrary. Fails with `Parts` if `column` does, with `Room` if `counts` does not
-/// have one element for each row, and with `Memory` if an allocation fails. `counts` is then
-/// unchanged.
+/// null row is arbitrary. Fails with `Parts` if `values` does not have one number for each row or
+/// the part has too few validity bits, with `Room` if `counts` does not have one element for each
+/// row, and with `Memory` if an allocation fails. `counts` is then unchanged.
 pub fn count_numbers<T: BitNumber>(
     alloc: Global,
     counting: Counting,

@@ -154,8 +154,8 @@ fn compare_unequal_with<T: NativeType>(
 }
 
 /// Compares each row of a column with the number `right`. Returns a bit for each row, 1 if the
-/// comparison is true. A null row is unequal to the number, and all other comparisons with it are
-/// false. The only error is `Memory`.
+/// comparison is true. For a null row, only the comparison `Unequal` is true. The only error is
+/// `Memory`.
 pub fn compare_with<T: NativeType>(
     alloc: Global,
     test: Test,

@@ -36,7 +36,7 @@ pub struct Place {
 }
 
 impl Place {
-    // Returns the number of extra rows that the array has before and after the given rows until it
+    // Returns the number of extra rows that the array has on each side of the given rows until it
     // is sliced: 0 if `values` is even, and else the lesser of the two bit offsets.
     fn rows_ahead(self) -> usize {
         if self.values % 2 == 0 {
@@ -130,7 +130,8 @@ fn store_rows(
     cut_rows(array, place.rows_ahead(), rows.len())
 }
 
-// Creates an array that also has `place.rows_ahead()` rows before and after the given rows.
+// Creates an array that also has `place.rows_ahead()` rows before the given rows, and as many after
+// them.
 fn store_wide(
     alloc: Global,
     sort: Sort,
@@ -143,8 +144,8 @@ fn store_wide(
     Ok(BooleanArray::try_new(values, validity)?)
 }
 
-// Creates the values of an array, with `place.rows_ahead()` more bits before and after the rows.
-// The values of nulls are random. Fails with `Case` if there are too few bits.
+// Creates the values of an array, with `place.rows_ahead()` more bits before the rows, and as many
+// after them. The values of nulls are random. Fails with `Case` if there are too few bits.
 fn store_values(
     alloc: Global,
     sort: Sort,

@@ -24,8 +24,8 @@ use std::alloc::Global;
 // Applies the operation `arithmetic` to the numbers `xs` and `ys` of two parts, row by row. Writes
 // the results into `out`, their validity into `present`, and the number of nulls into `nulls`.
 //
-// Fails with `Parts` if a part is not a valid column, with `Room` if `check_room` does, and with
-// `Memory` if an allocation fails. Nothing is then written.
+// Fails with `Parts` if a part is not a valid column, with `Room` if `out` or `present` has a wrong
+// length (see `check_room`), and with `Memory` if an allocation fails. Nothing is then written.
 fn calculate_numbers<T: PlNumArithmetic>(
     alloc: Global,
     arithmetic: Arithmetic,
@@ -54,9 +54,9 @@ fn calculate_numbers<T: PlNumArithmetic>(
     Ok(())
 }
 
-// Applies the operation `arithmetic` to two parts, row by row, and writes the results into the
-// slice of their type. Fails with `Types` if the parts differ in kind or in length, with
-// `NotServed` if they are not numbers of 8 to 64 bits, and as `calculate_numbers` does.
+// Calls `calculate_numbers` at the number type of two parts, with the slice of this type for the
+// results. Fails with `Types` if the parts differ in kind or in length, with `NotServed` if they
+// are not numbers of 8 to 64 bits, and as `calculate_numbers` does. Nothing is then written.
 fn calculate_parts(
     alloc: Global,
     arithmetic: Arithmetic,
@@ -107,16 +107,16 @@ fn calculate_parts(
 }
 
 /// Calculates an operation on two columns of numbers of the same kind and length, row by row.
-/// Writes the results into the slice of the columns' type, which has the length of the columns; the
-/// other slices are not used. Writes a bit for each row into `present`, 1 if the result is present,
-/// and sets all later bits to 0. Writes the number of null results into `nulls`.
+/// Writes the results into the slice of the columns' type, which must have the length of the
+/// columns; the other slices are not used. Writes a bit for each row into `present`, 1 if the
+/// result is present, and sets all later bits to 0. Writes the number of null results into `nulls`.
 ///
 /// A result is null if one of the two rows is null, or if the divisor is 0; the number written for
 /// it is arbitrary. Other results are wrapped to the type.
 ///
 /// `operation` is 0 for the sum, 1 for the difference, 2 for the product, 3 for the quotient
 /// rounded down, 4 for the quotient rounded toward 0, and 5 for the remainder that belongs to 3.
-/// Returns 0, or the status of a `Fault`; nothing is then written.
+/// Returns 0 on success. Otherwise returns the status of a `Fault`, and nothing is written.
 #[unsafe(no_mangle)]
 pub extern "C" fn dunkelva_parts_arithmetic(
     alloc: Global,

@@ -20,9 +20,9 @@ use polars_compute_reductions::bit_number::BitNumber;
 use polars_compute_slots::number::UniqueNumber;
 use std::alloc::Global;
 
-// Joins the numbers of a part's present rows bit by bit with `operator`. Returns `None` if no row
-// is present. Fails with `Parts` if the part is not a valid column, and with `Memory` if an
-// allocation fails.
+// Joins `values`, the numbers of a part, bit by bit with `operator`, without those of null rows.
+// Returns `None` if no row is present. Fails with `Parts` if the part is not a valid column, and
+// with `Memory` if an allocation fails.
 fn reduce_numbers<T: BitNumber + UniqueNumber>(
     alloc: Global,
     operator: BitOperator,
@@ -37,9 +37,8 @@ fn reduce_numbers<T: BitNumber + UniqueNumber>(
     Ok(whole(reduce_bits(operator, &column)))
 }
 
-// Joins the numbers of a part's present rows bit by bit with `operator`. The numbers are of the
-// type that the part's kind stands for. Returns `None` if no row is present. Fails with `NotServed`
-// if the part has no numbers of 8 to 64 bits, and as `reduce_numbers` does.
+// Calls `reduce_numbers` with the numbers of a part, at the type that the part's kind stands for.
+// Fails with `NotServed` if the part has no numbers of 8 to 64 bits, and as `reduce_numbers` does.
 fn reduce_part(alloc: Global, operator: BitOperator, part: &Part<'_>) -> Result<Option<i128>, Fault>
     ensures bits { IfOk result (IsReduction operator part.now) }
     ensures refused { IfErr result (IsTrueFault part.now) }
@@ -49,7 +48,8 @@ fn reduce_part(alloc: Global, operator: BitOperator, part: &Part<'_>) -> Result<
 
 /// Joins the numbers of the present rows of a column bit by bit, and writes the result into `out`.
 /// If no row is present, `out.exists` becomes 0. `operator` is 0 for AND, 1 for OR and 2 for
-/// exclusive OR. Returns 0, or the status of a `Fault`; `out` is then unchanged.
+/// exclusive OR. Returns 0 on success. Otherwise returns the status of a `Fault`, and `out` is
+/// unchanged.
 #[unsafe(no_mangle)]
 pub extern "C" fn dunkelva_part_reduce_bits(
     alloc: Global,

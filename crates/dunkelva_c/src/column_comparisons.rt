@@ -47,9 +47,9 @@ fn compare_numbers<T: NativeType>(
     Ok(bits)
 }
 
-// Compares two parts, row by row, as numbers of the type that their kind stands for. Fails with
-// `Types` if they differ in kind or in length, with `NotServed` if they are not numbers of 8 to 64
-// bits, and as `compare_numbers` does.
+// Calls `compare_numbers` with the numbers of two parts, at the type that their kind stands for.
+// Fails with `Types` if the parts differ in kind or in length, with `NotServed` if they are not
+// numbers of 8 to 64 bits, and as `compare_numbers` does.
 fn compare_parts(
     alloc: Global,
     test: Test,
@@ -90,7 +90,8 @@ fn write_compared(
 ///
 /// `test` is 0 for equal, 1 for unequal, 2 for less, 3 for less or equal, 4 for greater, and 5 for
 /// greater or equal. For 0 and 1, null is equal to null alone. For the others, the bit is 0 if one
-/// of the two rows is null. Returns 0, or the status of a `Fault`; `out` is then unchanged.
+/// of the two rows is null. Returns 0 on success. Otherwise returns the status of a `Fault`, and
+/// `out` is unchanged.
 #[unsafe(no_mangle)]
 pub extern "C" fn dunkelva_parts_compare(
     alloc: Global,
@@ -116,7 +117,8 @@ pub extern "C" fn dunkelva_parts_compare(
 
 /// Compares two columns of numbers of the same kind and length for equality, row by row. Null is
 /// equal to null alone. Writes a bit for each row into `out`, 1 if the rows are equal, and sets all
-/// later bits to 0. Returns 0, or the status of a `Fault`; `out` is then unchanged.
+/// later bits to 0. Returns 0 on success. Otherwise returns the status of a `Fault`, and `out` is
+/// unchanged.
 #[unsafe(no_mangle)]
 pub extern "C" fn dunkelva_parts_equal_lent(
     alloc: Global,

@@ -30,11 +30,11 @@ fn count_part(
     at_number_kind!(part, values => count_numbers(alloc, counting, part, values, counts))
 }
 
-/// Counts bits of each row of a column, and writes the counts into `counts`, which has the length
-/// of the column. The validity of the counts is that of the column, and the count of a null row is
-/// arbitrary. `counting` is 0 for ones, 1 for zeros, 2 for leading ones, 3 for leading zeros, 4 for
-/// trailing ones and 5 for trailing zeros. Returns 0, or the status of a `Fault`; `counts` is then
-/// unchanged.
+/// Counts bits of each row of a column, and writes the counts into `counts`, which must have the
+/// length of the column. The validity of the counts is that of the column, and the count of a null
+/// row is arbitrary. `counting` is 0 for ones, 1 for zeros, 2 for leading ones, 3 for leading
+/// zeros, 4 for trailing ones and 5 for trailing zeros. Returns 0 on success. Otherwise returns the
+/// status of a `Fault`, and `counts` is unchanged.
 #[unsafe(no_mangle)]
 pub extern "C" fn dunkelva_part_count_bits(
     alloc: Global,

@@ -50,8 +50,8 @@ fn part_ends(alloc: Global, part: &Part<'_>) -> Result<Ends, Fault>
 }
 
 /// Writes the least number of the present rows of a column into `least`, and the greatest one into
-/// `greatest`. If no row is present, `least.exists` and `greatest.exists` become 0. Returns 0, or
-/// the status of a `Fault`; `least` and `greatest` are then unchanged.
+/// `greatest`. If no row is present, `least.exists` and `greatest.exists` become 0. Returns 0 on
+/// success. Otherwise returns the status of a `Fault`, and `least` and `greatest` are unchanged.
 #[unsafe(no_mangle)]
 pub extern "C" fn dunkelva_part_min_max(
     alloc: Global,

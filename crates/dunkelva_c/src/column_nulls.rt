@@ -103,7 +103,8 @@ fn write_nulls(
 
 /// Writes a bit for each row of a column, 1 if the row is null, and sets all later bits of `out` to
 /// 0. Writes the number of null rows into `count`. The column has numbers of 8 to 64 bits, truth
-/// values, or nulls alone. Returns 0, or the status of a `Fault`; nothing is then written.
+/// values, or nulls alone. Returns 0 on success. Otherwise returns the status of a `Fault`, and
+/// nothing is written.
 #[unsafe(no_mangle)]
 pub extern "C" fn dunkelva_part_is_null(
     alloc: Global,

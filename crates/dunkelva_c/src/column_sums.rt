@@ -18,8 +18,9 @@ use polars_compute_reductions::sum::WrappingAdd;
 use polars_compute_slots::number::UniqueNumber;
 use std::alloc::Global;
 
-// Returns the sum of a part's present rows, wrapped to type `T`, or `None` if no row is present.
-// Fails with `Parts` if the part is not a valid column, and with `Memory` if an allocation fails.
+// Returns the sum of `values`, the numbers of a part, without those of null rows. The sum is
+// wrapped to type `T`, and is `None` if no row is present. Fails with `Parts` if the part is not a
+// valid column, and with `Memory` if an allocation fails.
 fn sum_of<T: UniqueNumber + WrappingAdd>(
     alloc: Global,
     part: &Part<'_>,
@@ -33,8 +34,8 @@ fn sum_of<T: UniqueNumber + WrappingAdd>(
     Ok(whole(sum(&column)))
 }
 
-// Returns the sum of a part's present rows, wrapped to the type of its kind. Fails with `NotServed`
-// if the part has no numbers of 8 to 64 bits, and as `sum_of` does.
+// Returns the sum of a part's present rows, wrapped to the type of its kind, or `None` if no row is
+// present. Fails with `NotServed` if the part has no numbers of 8 to 64 bits, and as `sum_of` does.
 fn part_sum(alloc: Global, part: &Part<'_>) -> Result<Option<i128>, Fault>
     ensures sum { IfOk result (λ sum. sum ≡ sum_of_part part.now) }
     ensures refused { IfErr result (IsTrueFault part.now) }
@@ -43,8 +44,8 @@ fn part_sum(alloc: Global, part: &Part<'_>) -> Result<Option<i128>, Fault>
 }
 
 /// Writes the sum of the present rows of a column of numbers, wrapped to their type, into `sum`. If
-/// no row is present, `sum.exists` becomes 0. Returns 0, or the status of a `Fault`; `sum` is then
-/// unchanged.
+/// no row is present, `sum.exists` becomes 0. Returns 0 on success. Otherwise returns the status of
+/// a `Fault`, and `sum` is unchanged.
 #[unsafe(no_mangle)]
 pub extern "C" fn dunkelva_part_sum(alloc: Global, part: &Part<'_>, sum: &mut Number) -> i32
     ensures written { result ≡ pos 0 → sum.new ≡ number_words (sum_of_part part.now) }

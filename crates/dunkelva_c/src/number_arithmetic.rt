@@ -27,8 +27,8 @@ use std::alloc::Global;
 // `present`, and the number of nulls into `nulls`.
 //
 // Fails with `Types` if type `T` can't represent the constant, with `Parts` if the part is not a
-// valid column, with `Room` if `check_room` does, and with `Memory` if an allocation fails. Nothing
-// is then written.
+// valid column, with `Room` if `out` or `present` has a wrong length (see `check_room`), and with
+// `Memory` if an allocation fails. Nothing is then written.
 fn calculate_numbers<T: PlNumArithmetic + UniqueNumber>(
     alloc: Global,
     arithmetic: Arithmetic,
@@ -58,9 +58,9 @@ fn calculate_numbers<T: PlNumArithmetic + UniqueNumber>(
     Ok(())
 }
 
-// Applies the operation `arithmetic` to each row of a part and the constant `number`, which is the
-// operand on side `side`. Writes the results into the slice of the part's type. Fails with
-// `NotServed` if the part has no numbers of 8 to 64 bits, and as `calculate_numbers` does.
+// Calls `calculate_numbers` at the number type of a part, with the slice of this type for the
+// results. Fails with `NotServed` if the part has no numbers of 8 to 64 bits, and as
+// `calculate_numbers` does. Nothing is then written.
 fn calculate_part(
     alloc: Global,
     arithmetic: Arithmetic,
@@ -109,9 +109,10 @@ fn calculate_part(
 /// lower and the upper word of the constant, in two's complement of 128 bits. `side` is 0 if the
 /// constant is on the left of the operation, and 1 if it is on the right.
 ///
-/// `operation`, `present`, `nulls` and the slices for the results are those of
-/// `dunkelva_parts_arithmetic`. Returns 0, or the status of a `Fault`; nothing is then written. If
-/// the column's type can't represent the constant, that is the status of `Fault::Types`.
+/// `operation`, `present`, `nulls` and the slices for the results have the same meaning as in
+/// `dunkelva_parts_arithmetic`. Returns 0 on success. Otherwise returns the status of a `Fault`,
+/// and nothing is written. The `Fault` is `Types` if the column's type can't represent the
+/// constant.
 #[unsafe(no_mangle)]
 pub extern "C" fn dunkelva_part_arithmetic_number(
     alloc: Global,

@@ -49,8 +49,8 @@ fn compare_numbers<T: UniqueNumber>(
     Ok(bits)
 }
 
-// Compares each number of a part with the constant `number`, at the type of the part's kind. Fails
-// with `NotServed` if the part has no numbers of 8 to 64 bits, and as `compare_numbers` does.
+// Calls `compare_numbers` with the numbers of a part, at the type that the part's kind stands for.
+// Fails with `NotServed` if the part has no numbers of 8 to 64 bits, and as `compare_numbers` does.
 fn compare_part(alloc: Global, test: Test, part: &Part<'_>, number: i128) -> Result<Bitmap, Fault>
     ensures bits { IfOk result (λ bits. bits ≡ compared_with test part.now number) }
     ensures count { IfOk result (λ bits. length bits ≡ part.now.rows) }
@@ -82,10 +82,9 @@ fn write_compared(
 /// are the lower and the upper word of the constant, in two's complement of 128 bits. Writes a bit
 /// for each row into `out`, 1 if the comparison is true, and sets all later bits to 0.
 ///
-/// `test` has the values of `dunkelva_parts_compare`. A null row is unequal to the constant, and
-/// all other comparisons with it are false. Returns 0, or the status of a `Fault`; `out` is then
-/// unchanged. If the column's type can't represent the constant, that is the status of
-/// `Fault::Types`.
+/// `test` has the same meaning as in `dunkelva_parts_compare`. For a null row, only the comparison
+/// for unequal is true. Returns 0 on success. Otherwise returns the status of a `Fault`, and `out`
+/// is unchanged. The `Fault` is `Types` if the column's type can't represent the constant.
 #[unsafe(no_mangle)]
 pub extern "C" fn dunkelva_part_compare_number(
     alloc: Global,

@@ -85,9 +85,9 @@ pub(crate) fn write_present(bits: &Bitmap, present: &mut [u64], nulls: &mut u64)
     }
 }
 
-/// Checks the sizes of the slices for results. `values` is the length of the slice for numbers, and
-/// has to be the number of rows of the part. `words` is the length of the slice for the validity,
-/// and has to suffice for a bit for each row. The only error is `Room`.
+/// Checks the lengths of the slices for the results of a part's rows. `values` is the length of the
+/// slice for numbers, and has to be the number of rows. `words` is the length of the slice for the
+/// validity, and has to suffice for a bit for each row. The only error is `Room`.
 pub(crate) fn check_room(part: &Part<'_>, values: usize, words: usize) -> Result<(), Fault>
     ensures room { OnOk result (HasRoom part.now values words) }
     ensures refused { IfErr result (λ fault. fault ≡ Room) }

@@ -21,8 +21,9 @@ use std::alloc::Global;
 // Applies the function `sign` to each of `values`, the numbers of a part. Writes the results into
 // `out`, their validity into `present`, and the number of nulls into `nulls`.
 //
-// Fails with `Parts` if the part is not a valid column, with `Room` if `check_room` does, and with
-// `Memory` if an allocation fails. Nothing is then written.
+// Fails with `Parts` if the part is not a valid column, with `Room` if `out` or `present` has a
+// wrong length (see `check_room`), and with `Memory` if an allocation fails. Nothing is then
+// written.
 fn change_numbers<T: PlNumArithmetic>(
     alloc: Global,
     sign: Sign,
@@ -47,9 +48,9 @@ fn change_numbers<T: PlNumArithmetic>(
     Ok(())
 }
 
-// Applies the function `sign` to each number of a part, and writes the results into the slice of
-// the part's type. Fails with `NotServed` if the part has no numbers of 8 to 64 bits, and as
-// `change_numbers` does.
+// Calls `change_numbers` at the number type of a part, with the slice of this type for the results.
+// Fails with `NotServed` if the part has no numbers of 8 to 64 bits, and as `change_numbers` does.
+// Nothing is then written.
 fn change_part(
     alloc: Global,
     sign: Sign,
@@ -95,8 +96,9 @@ fn change_part(
 /// Negates each row of a column, or calculates its absolute value. Results are wrapped to the type
 /// of the column, and nulls stay null. `sign` is 0 for negation, and 1 for absolute values.
 ///
-/// `present`, `nulls` and the slices for the results are those of `dunkelva_parts_arithmetic`.
-/// Returns 0, or the status of a `Fault`; nothing is then written.
+/// `present`, `nulls` and the slices for the results have the same meaning as in
+/// `dunkelva_parts_arithmetic`. Returns 0 on success. Otherwise returns the status of a `Fault`,
+/// and nothing is written.
 #[unsafe(no_mangle)]
 pub extern "C" fn dunkelva_part_sign(
     alloc: Global,

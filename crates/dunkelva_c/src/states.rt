@@ -1,7 +1,8 @@
 //! States of distinct values in the caller's memory.
 //!
 //! A state has a range of integers, words with a bit for each integer of the range, the least
-//! first, and a flag, which is not 0 if a null was seen.
+//! first, and a flag, which is not 0 if a null was seen. Functions get these as `least` and
+//! `greatest`, both included in the range, `words` and `flag`.
 
 ghost use Rattle.std.specs.Prelude.{◌≡◌, ◌≢◌, ◌≤◌, ◌*◌, length, pos, IfErr, IfOk, IfSome, IsNone};
 ghost use Rattle.std.specs.Prelude.{OnErr, OnOk};
@@ -37,7 +38,8 @@ pub(crate) enum StateFault {
     Outside,
 }
 
-// Returns the status code of a failed call on a state, in C.
+// Returns the status code of a failed call on a state, in C: that of the `Fault`, or 7 for
+// `NoRange` and 8 for `Outside`.
 fn status(fault: StateFault) -> i32
     ensures { result ≡ state_status fault }
 {
@@ -98,7 +100,7 @@ fn least_in<T: UniqueNumber>(range: &Range) -> Option<T>
 // Appends `values`, the numbers of a part, to the state in `words` and `flag`. Returns whether each
 // row is null or its number lies in `range`. If not, nothing is changed. Fails with `Types` if type
 // `T` can't represent the range, with `Parts` if the part is not a valid column, and with `Memory`
-// if an allocation fails.
+// if an allocation fails; nothing is then changed.
 fn append_numbers<T: UniqueNumber>(
     alloc: Global,
     part: &Part<'_>,
@@ -123,9 +125,10 @@ fn append_numbers<T: UniqueNumber>(
     Ok(append(&column, &Span { least, count }, words, flag))
 }
 
-// Appends the rows of a part to the state in `words` and `flag`. Returns whether each row is null
-// or its number lies in `range`. If not, nothing is changed. Fails with `NotServed` if the part has
-// no numbers of 8 to 64 bits, and as `append_numbers` does.
+// Calls `append_numbers` with the numbers of a part, at the type that the part's kind stands for.
+// Returns whether each row is null or its number lies in `range`. If not, nothing is changed. Fails
+// with `NotServed` if the part has no numbers of 8 to 64 bits, and as `append_numbers` does;
+// nothing is then changed.
 fn append_part(
     alloc: Global,
     part: &Part<'_>,
@@ -172,8 +175,8 @@ fn append_state(
 /// Sets the bits of all present numbers, and sets `flag` to 1 if a row is null. Bits past the last
 /// number of the range are unchanged.
 ///
-/// Returns 0, or the status of a `StateFault`; the state is then unchanged. The status is 8 if the
-/// number of a row is outside of the range.
+/// Returns 0 on success. Otherwise returns the status of a `StateFault`, and the state is
+/// unchanged. The status is 8 if the number of a row is outside of the range.
 #[unsafe(no_mangle)]
 pub extern "C" fn dunkelva_state_append(
     alloc: Global,
@@ -196,7 +199,8 @@ pub extern "C" fn dunkelva_state_append(
 }
 
 // Merges the state in `others` and `other_flag` into the state in `words` and `flag`, which has the
-// same range. Fails as `range_of` does, for either number of words; the state is then unchanged.
+// same range. Fails as `range_of` does, also if `others` has too few words; both states are then
+// unchanged.
 fn merge_state(
     least: &Number,
     greatest: &Number,
@@ -221,7 +225,8 @@ fn merge_state(
 /// the same range. Afterwards a bit is set if either state had seen its number. `flag` becomes 1 if
 /// `other_flag` is not 0. Bits past the last number of the range are unchanged.
 ///
-/// Returns 0, or the status of a `StateFault`; the state is then unchanged.
+/// Returns 0 on success. Otherwise returns the status of a `StateFault`, and both states are
+/// unchanged.
 #[unsafe(no_mangle)]
 pub extern "C" fn dunkelva_state_merge(
     least: &Number,
@@ -266,9 +271,8 @@ fn count_state(
 }
 
 /// Counts what a state has seen: writes the number of distinct values into `values`, and the number
-/// of distinct rows into `rows`. If the state has seen a null, it counts as one more row. The state
-/// consists of its range `least..=greatest`, its bits `words` and its flag for nulls. Returns 0, or
-/// the status of a `StateFault`: nothing is then written.
+/// of distinct rows into `rows`. If the state has seen a null, it counts as one more row. Returns 0
+/// on success. Otherwise returns the status of a `StateFault`, and nothing is written.
 #[unsafe(no_mangle)]
 pub extern "C" fn dunkelva_state_count(
     least: &Number,
@@ -320,8 +324,8 @@ fn list_state(
 /// written as the lower 64 bits of its two's complement. The rest of `out` is unchanged. `has_null`
 /// becomes 1 if a null was seen, and else 0.
 ///
-/// Returns 0, or the status of a `StateFault`; nothing is then written. The status is 3 if `out` is
-/// too short.
+/// Returns 0 on success. Otherwise returns the status of a `StateFault`, and nothing is written.
+/// The status is 3 if `out` is too short.
 #[unsafe(no_mangle)]
 pub extern "C" fn dunkelva_state_list(
     least: &Number,

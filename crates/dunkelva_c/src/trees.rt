@@ -13,14 +13,15 @@ use arrow_equality::nulls::null_rows;
 use arrow_parts::part::Part;
 use std::alloc::Global;
 
-/// Compares two arrays, row by row. Sets bit `i` of `out` if the two rows `i` are equal as trees,
-/// and sets all bits past the last row to 0. Null is equal to null alone. Sets `comparisons[0]` to
-/// the number of leaves that were compared: at most one for each leaf slot of the left array, and
-/// at most `u64::MAX`. Types may be equal though their offsets differ in width.
+/// Compares two arrays, each a tree of parts in pre-order, row by row. Sets bit `i` of `out` if the
+/// two rows `i` are equal as trees, and sets all bits past the last row to 0. Null is equal to null
+/// alone. Sets `comparisons[0]` to the number of leaves that were compared: at most one for each
+/// leaf slot of the left array, and at most `u64::MAX`. Two types count as equal also if they
+/// differ only in the width of offsets, or in whether strings are stored as views.
 ///
-/// Returns 0, or else a status, and both slices are unchanged. The status is 1 if the parts on a
-/// side make no array, 2 if the arrays differ in type or in length, 3 if `out` has fewer bits than
-/// rows or `comparisons` is empty, and 4 if an allocation fails.
+/// Returns 0 on success. Otherwise returns another status, and both slices are unchanged. The
+/// status is 1 if the parts on a side make no array, 2 if the arrays differ in type or in length, 3
+/// if `out` has fewer bits than rows or `comparisons` is empty, and 4 if an allocation fails.
 ///
 /// The contract states this for the parts: the bits (`same`), the number (`count`) and the parts
 /// (`good`) if the result is 0, and that nothing is written otherwise (`kept`, `count_kept`). Each
@@ -49,12 +50,12 @@ pub extern "C" fn dunkelva_parts_equal(
     }
 }
 
-/// Sets bit `i` of `out` if row `i` of an array is null, and sets all bits past the last row to 0.
-/// Sets `count` to the number of null rows. A row of a dictionary is null if its key is null, or if
-/// the entry of the key is null.
+/// Sets bit `i` of `out` if row `i` of an array, a tree of parts in pre-order, is null, and sets
+/// all bits past the last row to 0. Sets `count` to the number of null rows. A row of a dictionary
+/// is null if its key is null, or if the entry of the key is null.
 ///
-/// Returns 0, or else a status, and nothing is written. The status is 1 if the parts make no array,
-/// 3 if `out` has fewer bits than rows, and 4 if an allocation fails.
+/// Returns 0 on success. Otherwise returns another status, and nothing is written. The status is 1
+/// if the parts make no array, 3 if `out` has fewer bits than rows, and 4 if an allocation fails.
 #[tactic(auto, using(crate::proofs::TreeFaults::nulls))]
 #[unsafe(no_mangle)]
 pub extern "C" fn dunkelva_parts_are_null(

@@ -4,6 +4,9 @@
 //! An order is a struct. Its items are a list of numbers, and its city is an entry of a dictionary.
 //! The second column of orders is equal to the first except for one item, but is stored in another
 //! way: the null list has stored items, and the cities in the dictionary are swapped.
+//!
+//! A function that returns a `Fault` fails with `Fault::Memory` if an allocation fails, and with
+//! `Fault::Output` if it prints and the output can't be written.
 #![tactic(auto)]
 
 ghost use Rattle.std.specs.List.{All};
@@ -57,7 +60,7 @@ fn items(alloc: Global, parts: &Parts) -> Result<Box<AnyArray>, Fault>
     Ok(Box::new(alloc, AnyArray::Int32(items))?)
 }
 
-/// Creates the array with the list of items of each order. Fails with `Parts` if
+/// Creates the array with the list of items of each order. Fails with `Fault::Parts` if
 /// `ListArray::try_new` refuses the parts.
 fn lists(alloc: Global, parts: &Parts) -> Result<AnyArray, Fault>
     ensures { IfOk result (λ array. IsGood array) }
@@ -70,7 +73,8 @@ fn lists(alloc: Global, parts: &Parts) -> Result<AnyArray, Fault>
     Ok(AnyArray::List(array))
 }
 
-/// Creates the array of cities. Fails with `Parts` if `Utf8Array::try_new` refuses the parts.
+/// Creates the array of cities. Fails with `Fault::Parts` if `Utf8Array::try_new` refuses the
+/// parts.
 fn cities(alloc: Global, parts: &Parts) -> Result<Box<AnyArray>, Fault>
     ensures { IfOk result (λ array. IsGood array.value) }
 {
@@ -80,8 +84,8 @@ fn cities(alloc: Global, parts: &Parts) -> Result<Box<AnyArray>, Fault>
     Ok(Box::new(alloc, AnyArray::Utf8(array))?)
 }
 
-/// Creates the dictionary array that has the city of each order. Fails with `Parts` if the offsets
-/// of the cities or the keys are refused.
+/// Creates the dictionary array that has the city of each order. Fails with `Fault::Parts` if the
+/// offsets of the cities or the keys are refused.
 fn named_cities(alloc: Global, parts: &Parts) -> Result<AnyArray, Fault>
     ensures { IfOk result (λ array. IsGood array) }
 {
@@ -121,7 +125,7 @@ fn columns(alloc: Global, parts: &Parts) -> Result<Vec<AnyArray>, Fault>
 }
 
 /// Creates the struct array of the orders. Fails with `Fault::Parts` if a constructor (`try_new`)
-/// refuses the parts, and with `Fault::Memory` if an allocation fails.
+/// refuses the parts.
 fn orders(alloc: Global, parts: &Parts) -> Result<Box<AnyArray>, Fault>
     ensures { IfOk result (λ array. IsGood array.value) }
 {
@@ -132,8 +136,8 @@ fn orders(alloc: Global, parts: &Parts) -> Result<Box<AnyArray>, Fault>
 }
 
 /// Compares two columns row by row, and prints the result for each row, and then the number of
-/// comparisons of leaves. Null is equal to null alone. Fails with `Columns` if the columns differ
-/// in type or in length.
+/// comparisons of leaves. Null is equal to null alone. Fails with `Fault::Columns` if the columns
+/// differ in type or in length.
 fn print_same(
     rt: &(impl Print + AllocGlobal),
     left: &AnyArray,
@@ -165,8 +169,8 @@ fn print_rows(rt: &impl Print, same: &Bitmap, comparisons: u64) -> Result<(), Fa
     Ok(())
 }
 
-/// Creates a column of numbers. Row `i` is null if `present[i]` is false. Fails with `Parts` if the
-/// slices have different lengths.
+/// Creates a column of numbers. Row `i` is null if `present[i]` is false. Fails with `Fault::Parts`
+/// if the slices have different lengths.
 fn numbers(alloc: Global, values: &[i32], present: &[bool]) -> Result<PrimitiveArray<i32>, Fault> {
     let values = Buffer::from_vec(Vec::from_slice(alloc, values)?);
     let validity = Bitmap::from_bools(alloc, present)?;
@@ -217,7 +221,7 @@ fn compare_orders(rt: &(impl Print + AllocGlobal)) -> Result<(), Fault> {
 }
 
 /// Compares the columns. Then builds orders from offsets that exceed the items, and prints how they
-/// are refused. Returns 1 if a step fails, or if these orders are not refused.
+/// are refused. Returns 1 if a step fails or these orders are not refused, and else 0.
 fn main(rt: HostRuntime) -> ExitCode {
     if let Err(fault) = compare_numbers(&rt).and_then(|_| compare_orders(&rt)) {
         let _ = eprintln!(rt; "{fault}");

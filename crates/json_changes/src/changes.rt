@@ -15,8 +15,8 @@ use json::Value;
 use json_decimals::error::NumberError;
 use std::alloc::Global;
 
-/// Returns the differences between two values that are reported under `rules`, as text. For
-/// example, `{"id": 1}` and `{"id": 2}` differ at the path `id`, in the texts `1` and `2`.
+/// Returns the differences between two values that `rules` report, each as text. For example,
+/// `{"id": 1}` and `{"id": 2}` differ at the path `id`, in the texts `1` and `2`.
 ///
 /// Fails with `WideExponent` only if the exponent of a number has more than 30 digits, not counting
 /// leading zeros. That may be a number whose difference is not reported. Fails with `Memory` if an

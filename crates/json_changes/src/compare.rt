@@ -1,4 +1,9 @@
 //! The comparison of two JSON values, part by part.
+//!
+//! The functions fail with `Memory` or `AllocError` if an allocation fails. Those with a
+//! `NumberError` fail with `WideExponent` if two numbers with different texts are compared and the
+//! exponent of one has more than 30 digits, not counting leading zeros. After an error some changes
+//! may be appended already, and `trail` may be longer. On success `trail` is unchanged.
 
 ghost use Rattle.std.specs.Prelude.{◌≡◌, ◌++◌, IfErr, IfSome, MatchOption, OnOk, drop, map};
 ghost use Rattle.json.specs.Json.{array, object};
@@ -21,8 +26,8 @@ use json_decimals::error::NumberError;
 use json_paths::path::Step;
 use std::alloc::{AllocError, Global};
 
-/// Appends a change for each of `items` from index `from` on, unless the rules don't report it.
-/// Only the array on `side` has these items. `trail` is the path of the array.
+/// Appends a change for each of `items` from index `from` on, if the rules report it. Only the
+/// array on `side` has these items. `trail` is the path of the array.
 fn push_items(
     alloc: Global,
     rules: &Rules,
@@ -77,9 +82,9 @@ fn push_added_member(
     Ok(())
 }
 
-/// Appends a change for each member that only the right object has, unless the rules don't report
-/// it. `own` are the members of the left object, `other` those of the right one. `trail` is the
-/// path of the two objects.
+/// Appends a change for each member that only the right object has, if the rules report it. `own`
+/// are the members of the left object, `other` those of the right one. `trail` is the path of the
+/// two objects.
 fn push_added_members<'a, 'b>(
     alloc: Global,
     rules: &Rules,
@@ -102,11 +107,8 @@ fn push_added_members<'a, 'b>(
     Ok(())
 }
 
-/// Appends the changes between two values at the path `trail`, except those that the rules don't
-/// report. Arrays are compared item by item, and objects member by member. Afterwards `trail` is
-/// unchanged.
-///
-/// If this fails, some changes may be appended already, and `trail` may be longer.
+/// Appends those changes between two values that the rules report. `trail` is the path of the
+/// values. Arrays are compared item by item, and objects member by member.
 #[cycle(compare)]
 pub(crate) fn compare<'a, 'b>(
     alloc: Global,
@@ -134,8 +136,9 @@ pub(crate) fn compare<'a, 'b>(
     compare_leaves(alloc, rules, trail, changes, left, right)
 }
 
-/// Appends the changes between the items of two arrays at the path `trail`, as `compare` does.
-/// Items with the same index are compared, and each further item of the longer array is a change.
+/// Appends those changes between the items of two arrays that the rules report. `own` are the items
+/// of the left array, `other` those of the right one, and `trail` is the path of the arrays. Items
+/// with the same index are compared, and each further item of the longer array is a change.
 #[cycle(compare)]
 fn compare_items<'a, 'b>(
     alloc: Global,
@@ -167,9 +170,10 @@ fn compare_items<'a, 'b>(
     Ok(())
 }
 
-/// Appends the changes between `left`, the value of a member of the left object, and `found`, the
-/// value that the right object has at the same name. If `found` is `None`, appends the change of a
-/// part that only the left object has. `trail` is the path of the member.
+/// Appends those changes between `left` and `found` that the rules report. `left` is the value of a
+/// member of the left object, and `found` the value that the right object has at the same name. If
+/// `found` is `None`, only the left object has the member, and this is the change. `trail` is the
+/// path of the member.
 #[cycle(compare)]
 fn compare_found<'a, 'b>(
     alloc: Global,
@@ -199,8 +203,10 @@ fn compare_found<'a, 'b>(
     }
 }
 
-/// Appends the changes between the members of two objects at the path `trail`, as `compare` does.
-/// Members with the same name are compared, and each member that only one object has is a change.
+/// Appends those changes between the members of two objects that the rules report. `own` are the
+/// members of the left object, `other` those of the right one, and `trail` is the path of the
+/// objects. Members with the same name are compared, and each member that only one object has is a
+/// change.
 #[cycle(compare)]
 fn compare_members<'a, 'b>(
     alloc: Global,

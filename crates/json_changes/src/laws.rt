@@ -21,8 +21,9 @@ pub fn change_laws()
 {}
 
 /// States the laws of rules. Without rules every difference is reported. Under rules only
-/// differences are reported, and none if the two values are equal. Tolerances allow only
-/// differences between two numbers, and never add a difference to a report.
+/// differences are reported, and none if the two values are equal and no object of theirs has a
+/// name twice. Tolerances allow only differences between two numbers, and never add a difference to
+/// a report.
 pub fn rule_laws()
     ensures all_told { AllToldWithoutRules }
     ensures told_are_differences { ToldAreDifferences }

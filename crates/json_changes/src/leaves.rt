@@ -39,8 +39,9 @@ fn are_same_numbers(alloc: Global, left: &str, right: &str) -> Result<bool, Numb
     Ok(first.as_slice() == second.as_slice())
 }
 
-/// Returns whether two values are equal. They are not both arrays and not both objects, so an array
-/// or an object is not equal to the other value. For two numbers, fails like `are_same_numbers`.
+/// Returns whether two values are equal. Returns `false` if one of them is an array or an object,
+/// since `compare` handles two arrays and two objects. For two numbers, fails like
+/// `are_same_numbers`.
 fn are_same(alloc: Global, left: &Value<'_>, right: &Value<'_>) -> Result<bool, NumberError>
     ensures same { IfOk result
         (λ b. b ≡ is_same_leaf (value_view left.now) (value_view right.now)) }
@@ -57,8 +58,9 @@ fn are_same(alloc: Global, left: &Value<'_>, right: &Value<'_>) -> Result<bool, 
     }
 }
 
-/// Appends the change between `left` and `right`, the values at the path `trail`, unless they are
-/// equal or the rules don't report it. Fails like `are_same_numbers`.
+/// Appends the change between `left` and `right`, the values at the path `trail`, if they differ
+/// and the rules report it. The two values are not both arrays or both objects. Fails like
+/// `are_same_numbers`; no change is then appended.
 pub(crate) fn compare_leaves(
     alloc: Global,
     rules: &Rules,

@@ -13,8 +13,9 @@ use std::collections::BTreeMap;
 /// The greatest number of members that are searched one by one.
 const FEW: usize = 16;
 
-/// Returns a map from the names of members to their values. The map is empty if there are at most
-/// `FEW` members, since `find_in` searches these one by one.
+/// Returns a map from the names of members to their values. If a name occurs twice, its last value
+/// counts. The map is empty if there are at most `FEW` members, since `find_in` searches these one
+/// by one.
 fn by_name<'v, 'a>(
     alloc: Global,
     members: &'v Vec<(&'a str, Value<'a>)>,
@@ -33,15 +34,15 @@ fn by_name<'v, 'a>(
     Ok(names)
 }
 
-/// Returns the value of a name in a map, or `None` if there is none.
+/// Returns the value that a map has at `name`, or `None` if it has none.
 fn look_up<'v, 'a>(names: &BTreeMap<&'a str, &'v Value<'a>>, name: &str) -> Option<&'v Value<'a>>
     ensures { result ≡ at_name names.now name.now }
 {
     names.get(name).copied()
 }
 
-/// Returns the value of the member with this name, or `None` if there is none. `names` is the map
-/// that `by_name` returns for the members.
+/// Returns the value of the last member with this name, or `None` if there is none. `names` is the
+/// map that `by_name` returns for the members.
 fn find_in<'v, 'a>(
     members: &'v Vec<(&'a str, Value<'a>)>,
     names: &BTreeMap<&'a str, &'v Value<'a>>,
@@ -58,8 +59,8 @@ fn find_in<'v, 'a>(
     }
 }
 
-/// Returns an entry for each of `members`: the value of the member of `among` with the same name,
-/// or `None` if `among` has no such member.
+/// Returns an entry for each of `members`: the value of the last member of `among` with the same
+/// name, or `None` if `among` has no such member.
 pub(crate) fn find_all<'v, 'a, 'b>(
     alloc: Global,
     members: &Vec<(&'a str, Value<'a>)>,

@@ -45,8 +45,8 @@ fn text_of(alloc: Global, part: Option<&Value<'_>>) -> Result<Option<Vec<u8>>, A
     }
 }
 
-/// Appends the change between two parts at the path `trail`, unless the rules don't report it. A
-/// part is `None` if it is missing.
+/// Appends the change between two parts at the path `trail`, if the rules report it. A part is
+/// `None` if it is missing.
 pub(crate) fn push_change(
     alloc: Global,
     rules: &Rules,
@@ -75,8 +75,8 @@ pub(crate) fn push_change(
     Ok(())
 }
 
-/// Appends the change of a part that only the value on `side` has, unless the rules don't report
-/// it. `trail` is the path of the part.
+/// Appends the change of a part that only the value on `side` has, if the rules report it. `trail`
+/// is the path of the part.
 pub(crate) fn push_alone(
     alloc: Global,
     rules: &Rules,

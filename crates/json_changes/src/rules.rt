@@ -34,9 +34,8 @@ pub struct Rules {
     /// The patterns of the parts whose differences are never reported. Differences inside these
     /// parts are not reported either.
     pub ignored: Vec<Pattern>,
-    /// The patterns of the only parts whose differences are reported. A difference of a part inside
-    /// such a part, or of a part that contains it, is reported too. If the list is empty, this rule
-    /// does not apply.
+    /// If this list is not empty, only differences of these parts are reported: parts that one of
+    /// the patterns names, parts inside them, and parts that contain them.
     pub only: Vec<Pattern>,
     /// `true` if a missing part is equal to null.
     pub missing_is_null: bool,
@@ -110,9 +109,9 @@ fn are_close(margin: &Margin, left: Option<&Value<'_>>, right: Option<&Value<'_>
 }
 
 impl Tolerance {
-    /// Returns whether the tolerance allows the difference between `left` and `right`: its pattern
-    /// names the part at `path` or a part that contains it, and both are numbers that differ by at
-    /// most its margin.
+    /// Returns whether the tolerance allows the difference between `left` and `right`, the parts at
+    /// `path` of two values. It does if its pattern names the part at `path` or a part that
+    /// contains it, and `left` and `right` are numbers that differ by at most its margin.
     fn allows(&self, path: &[Step], left: Option<&Value<'_>>, right: Option<&Value<'_>>) -> bool
         requires { PartsAreNarrow (option_map (λ v. value_view v.now) left)
             (option_map (λ v. value_view v.now) right) }

@@ -5,7 +5,7 @@ ghost use Rattle.json_decimals.specs.Errors.{IsMemory};
 use std::alloc::{AllocError, AllocFailed};
 use thiserror::Error;
 
-/// The reason why the normal text of a number is not written.
+/// The reason why the normal text of a number is not written, or why two numbers are not compared.
 #[derive(Clone, Copy, Debug, Drop, Error, PartialEq, Eq)]
 pub enum NumberError {
     /// An allocation failed.

@@ -4,10 +4,12 @@
 ghost use Rattle.json_decimals.specs.Laws.{NormalFormsTell, NormalIsEqual, NormalTextsTell};
 ghost use Rattle.json_decimals.specs.Laws.{OneNormalForm, PassesOn, TextReadsBack};
 
-/// States that equality of decimals is transitive, that each decimal has exactly one equal normal
-/// form, and that the normal text of a decimal reads back as its normal form. Two decimals are
-/// equal if and only if they have the same normal form, and if and only if they have the same
-/// normal text.
+/// States laws of decimals. A decimal is in normal form if its last digit is not 0, and a power of
+/// ten only multiplies or only divides its digits. Zero is in normal form if it has no sign and no
+/// power of ten. The laws state that equality of decimals is transitive, that each decimal has
+/// exactly one equal normal form, and that the normal text of a decimal reads back as its normal
+/// form. Two decimals are equal if and only if they have the same normal form, and if and only if
+/// they have the same normal text.
 pub fn decimal_laws()
     ensures passes_on { PassesOn }
     ensures normal_is_equal { NormalIsEqual }

@@ -48,7 +48,8 @@ fn push_sign(out: &mut Vec<u8>, negative: bool) -> Result<(), AllocError>
 /// number, the longest number at its beginning is used, or else 0.
 ///
 /// Fails with `WideExponent` if the exponent has more than 30 digits, not counting leading zeros,
-/// even if the number is 0. Fails with `Memory` if an allocation fails.
+/// even if the number is 0; `out` is then unchanged. Fails with `Memory` if an allocation fails;
+/// the beginning of the normal text may then have been appended.
 pub fn push_normal_number(out: &mut Vec<u8>, text: &str) -> Result<(), NumberError>
     ensures ok { OnOk result (out.new.items ≡ out.old.items ++ normal_number text.now) }
     ensures narrow { OnOk result (¬ HasWideExponent text.now) }

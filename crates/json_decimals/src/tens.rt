@@ -77,8 +77,8 @@ pub fn tens_of(numeral: &Numeral<'_>) -> Option<Tens>
     }
 }
 
-/// Appends an exponent to `out`: `e` and `tens.up`, such as `e2`, or, if `tens.up` is 0, `e-` and
-/// `tens.down`, such as `e-1`. Appends nothing if both are 0.
+/// Appends an exponent to `out`. If `tens.up` is not 0, this is `e` and `tens.up`, such as `e2`.
+/// Otherwise it is `e-` and `tens.down`, such as `e-1`, or nothing if `tens.down` is 0 too.
 pub(crate) fn push_tens(out: &mut Vec<u8>, tens: Tens) -> Result<(), AllocError>
     requires { tens.up + tens.down < 10 ^ 32 }
     ensures { OnOk result (out.new.items ≡ out.old.items ++ tens_text tens.up tens.down) }

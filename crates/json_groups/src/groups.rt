@@ -37,8 +37,8 @@ impl<T: Tally> Groups<T> {
         }
     }
 
-    /// Creates the group of a path that has no group yet, and adds a value of the current document
-    /// to it.
+    /// Creates the group of `path`, which has no group yet, and adds `value`, which the current
+    /// document has at this path.
     fn add_first(&mut self, alloc: Global, path: &[u8], value: &Value<'_>) -> Result<(), AllocError>
         ensures { OnOk result ((done : List (List Part)) (parts : List Part)
             → place_of path.now self.old.places ≡ None → HoldsParts T.Gathers done parts self.old
@@ -53,8 +53,8 @@ impl<T: Tally> Groups<T> {
         Ok(())
     }
 
-    /// Adds a value of the current document to the group of its path. Creates the group if there is
-    /// none.
+    /// Adds `value`, which the current document has at `path`, to the group of this path. Creates
+    /// the group if there is none.
     fn add(&mut self, alloc: Global, path: &[u8], value: &Value<'_>) -> Result<(), AllocError>
         requires { (done : List (List Part)) × (parts : List Part)
             × HoldsParts T.Gathers done parts self.old }
@@ -72,7 +72,7 @@ impl<T: Tally> Groups<T> {
     }
 
     /// Adds the parts of a document: all members and items at any depth. If this fails, some parts
-    /// may have been added.
+    /// may have been added, and the groups must not be used any more.
     pub fn add_document(&mut self, alloc: Global, document: &Value<'_>) -> Result<(), AllocError>
         requires { (documents : List (List Part)) × HoldsDocuments T.Gathers documents self.old }
         ensures { OnOk result ((documents : List (List Part))

@@ -34,8 +34,8 @@ fn write_token(writer: &mut Writer, token: Token<'_>) -> Result<(), NumberError>
 }
 
 /// Writes the normal text of a number. `room` is a buffer whose contents are overwritten. Fails
-/// with `WideExponent` if the exponent has more than 30 digits, and with `Memory` if an allocation
-/// fails.
+/// with `WideExponent` if the exponent has more than 30 digits, not counting leading zeros, and
+/// with `Memory` if an allocation fails.
 fn write_number(writer: &mut Writer, room: &mut Vec<u8>, text: &str) -> Result<(), NumberError>
     ensures ok { OnOk result (writer.new.tokens
         ≡ writer.old.tokens ++ number (normal_number text.now) ∷ []) }
@@ -49,11 +49,10 @@ fn write_number(writer: &mut Writer, room: &mut Vec<u8>, text: &str) -> Result<(
     Ok(())
 }
 
-/// Writes the normal text of a value. `room` is a buffer whose contents are overwritten. Fails with
-/// `WideExponent` if the exponent of a number has more than 30 digits, and with `Memory` if an
-/// allocation fails.
+/// Writes the normal text of a value. `room` is a buffer whose contents are overwritten.
 ///
-/// If this fails, some tokens may have been written.
+/// Fails with `WideExponent` if the exponent of a number has more than 30 digits, not counting
+/// leading zeros, and with `Memory` if an allocation fails. Some tokens may then have been written.
 #[cycle(normal)]
 pub fn write_normal<'a>(
     alloc: Global,

@@ -145,9 +145,9 @@ fn place_of(digits: &str) -> Option<usize>
     digits.parse::<usize>().ok()
 }
 
-/// Reads the rest of a step in brackets. The opening bracket is before byte `start`. An index and a
-/// closing bracket are the step to the item at this index. A closing bracket alone is the step to
-/// any item. Fails with `Invalid` for any other text.
+/// Reads the rest of a step in brackets. The opening bracket is the byte before `start`. An index
+/// and a closing bracket are the step to the item at this index. A closing bracket alone is the
+/// step to any item. Fails with `Invalid` for any other text, and if the index is 2^64 or more.
 fn item_at(text: &str, start: usize) -> Result<Found, PathError>
     requires { IsCharBoundary text.now start }
     ensures { Finds text.now start (open_bracket ∷ drop start text.now) result }
@@ -188,8 +188,8 @@ fn step_at(alloc: Global, text: &str, start: usize) -> Result<Found, PathError>
     plain_name(alloc, text, start)
 }
 
-/// Parses a path. Fails with `Invalid` if the text is not a path, and with `Memory` if an
-/// allocation fails.
+/// Parses a path. Fails with `Invalid` if the text is not a path, for example because it has the
+/// step `[]`. Fails with `Memory` if an allocation fails.
 pub fn parse_path(alloc: Global, text: &str) -> Result<Path, PathError>
     ensures read { IfOk result (λ path. IsPathText text.now (path_view path)) }
     ensures invalid { IfErr result (λ e. IsInvalid e → IsNoPath text.now) }

@@ -7,7 +7,8 @@ ghost use Rattle.json_paths.specs.Views.{path_view, step_view};
 
 use json::Value;
 
-/// A step into a value: to the member with a name (`Name`), or to the item at an index (`Place`).
+/// A step into a value: to the last member with a name (`Name`), or to the item at an index from 0
+/// (`Place`).
 #[derive(Drop)]
 pub enum Step {
     Name(String),

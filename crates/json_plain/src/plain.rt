@@ -65,8 +65,9 @@ fn byte_at(bytes: &[u8], i: usize) -> u8
     if i < bytes.len() { bytes[i] } else { 0 }
 }
 
-/// Appends a JSON text, in which each character from U+007F to U+009F is replaced by an escape such
-/// as `\u0085`. All other bytes are unchanged.
+/// Appends a JSON text in UTF-8, in which each character from U+007F to U+009F is replaced by an
+/// escape such as `\u0085`. All other bytes are unchanged. If an allocation fails, the beginning of
+/// the output may have been appended.
 pub fn push_plain_json(out: &mut Vec<u8>, text: &[u8]) -> Result<(), AllocError>
     ensures { OnOk result (out.new.items ≡ out.old.items ++ plain_json text.now) }
 {

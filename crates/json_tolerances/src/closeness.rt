@@ -52,8 +52,9 @@ fn are_within_part(bound: &Bound, left: &Number<'_>, right: &Number<'_>) -> bool
 }
 
 impl Margin {
-    /// Returns whether the numbers that `left` and `right` write differ by at most the margin. For
-    /// example, a margin of `Absolute` 0.01 allows 0.30 and 0.31.
+    /// Returns whether the numbers in the texts `left` and `right` differ by at most the margin.
+    /// For example, a margin of `Absolute` 0.01 allows 0.30 and 0.31. If a text is not a number,
+    /// the longest number at its beginning is used, or else 0.
     ///
     /// Fails with `WideExponent` if an exponent has more than 30 digits, not counting leading
     /// zeros.

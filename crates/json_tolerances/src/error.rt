@@ -8,7 +8,7 @@ pub enum BoundError {
     /// The text is not a number of JSON.
     #[error("is not a number")]
     NotANumber,
-    /// The number begins with a minus.
+    /// The number begins with a minus sign.
     #[error("is negative")]
     Negative,
     /// The exponent has more than 30 digits, not counting leading zeros.

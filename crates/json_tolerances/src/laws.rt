@@ -5,7 +5,7 @@ ghost use Rattle.json_tolerances.specs.Laws.{EqualAreClose, IsSymmetric, OnlyEqu
 ghost use Rattle.json_tolerances.specs.OrderLaws.{EqualAreNotLess, LessIsOneWay, LessPassesOn};
 
 /// States that closeness is symmetric, that equal numbers are close within any margin, and that
-/// only equal numbers are close within a margin of 0.
+/// only equal numbers are close within an absolute margin of 0.
 pub fn closeness_laws()
     ensures symmetric { IsSymmetric }
     ensures equal_are_close { EqualAreClose }

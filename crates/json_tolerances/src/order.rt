@@ -26,8 +26,9 @@ fn have_sum(x: &Term<'_>, y: &Term<'_>) -> bool
     compare_with_sum(&none, x, y, 0, 1, 1).is_lt()
 }
 
-/// Returns whether the number of sign `negative` and absolute value `x` is less than the number of
-/// sign `other_negative` and absolute value `y`.
+/// Returns whether the first of two numbers is less than the second. `x` and `y` are their absolute
+/// values. `negative` says whether the first has a minus sign, `other_negative` whether the second
+/// has one. 0 and -0 are equal.
 fn is_signed_less(negative: bool, other_negative: bool, x: &Term<'_>, y: &Term<'_>) -> bool
     ensures { result ≡ signed_less negative other_negative x.now y.now }
 {
@@ -49,7 +50,8 @@ fn is_number_less(left: &Number<'_>, right: &Number<'_>) -> bool
     is_signed_less(left.is_negative(), right.is_negative(), &first, &second)
 }
 
-/// Returns whether the number that `left` writes is less than the number that `right` writes.
+/// Returns whether the number in the text `left` is less than the one in the text `right`. If a
+/// text is not a number, the longest number at its beginning is used, or else 0.
 ///
 /// Fails with `WideExponent` if an exponent has more than 30 digits, not counting leading zeros.
 pub fn is_less(left: &str, right: &str) -> Result<bool, NumberError>
