@@ -30,7 +30,7 @@ pub enum Arithmetic {
     FloorDivide,
     /// Returns the quotient, rounded toward 0.
     TruncatingDivide,
-    /// Returns the remainder that belongs to `FloorDivide`.
+    /// Returns the remainder of the division whose quotient is rounded down.
     Modulo,
 }
 

@@ -50,7 +50,8 @@ fn mark_all<T: UniqueNumber>(words: &mut [u64], span: &Span<T>, numbers: &[T])
     }
 }
 
-// Sets the bits of the present rows among at most 64 rows. Row `i` is present if bit `i` of
+// Sets the bits of the numbers of present rows in the state `words`. `numbers` are the numbers of
+// at most 64 rows; those of present rows lie in the range `span`. Row `i` is present if bit `i` of
 // `present` is 1. The loop visits only present rows.
 #[inline(always)]
 fn mark_some<T: UniqueNumber>(words: &mut [u64], span: &Span<T>, numbers: &[T], present: u64)
@@ -72,8 +73,8 @@ fn mark_some<T: UniqueNumber>(words: &mut [u64], span: &Span<T>, numbers: &[T], 
     }
 }
 
-// Sets the bits of the present rows among at most 64 rows. Row `i` is present if bit `i` of
-// `present` is 1. If all 64 rows are present, no bit of `present` is examined.
+// Sets the bits of the numbers of present rows in the state `words`. The arguments have the same
+// meaning as in `mark_some`. If all 64 rows are present, no bit of `present` is examined.
 #[inline(always)]
 fn mark_word<T: UniqueNumber>(words: &mut [u64], span: &Span<T>, numbers: &[T], present: u64)
     requires few { length numbers.now ≤ 64 }
@@ -93,7 +94,8 @@ fn mark_word<T: UniqueNumber>(words: &mut [u64], span: &Span<T>, numbers: &[T], 
     }
 }
 
-// Sets the bits of all rows that are present by `mask`, in blocks of 64 rows.
+// Sets the bits of the numbers of all rows that are present by `mask`, in the state `words`. The
+// numbers of present rows lie in the range `span`. Works on blocks of 64 rows.
 fn mark_masked<T: UniqueNumber>(
     words: &mut [u64],
     span: &Span<T>,

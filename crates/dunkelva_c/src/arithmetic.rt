@@ -115,8 +115,9 @@ fn calculate_parts(
 /// it is arbitrary. Other results are wrapped to the type.
 ///
 /// `operation` is 0 for the sum, 1 for the difference, 2 for the product, 3 for the quotient
-/// rounded down, 4 for the quotient rounded toward 0, and 5 for the remainder that belongs to 3.
-/// Returns 0 on success. Otherwise returns the status of a `Fault`, and nothing is written.
+/// rounded down, 4 for the quotient rounded toward 0, and 5 for the remainder of the division whose
+/// quotient is rounded down. Returns 0 on success. Otherwise returns the status of a `Fault`, and
+/// nothing is written.
 #[unsafe(no_mangle)]
 pub extern "C" fn dunkelva_parts_arithmetic(
     alloc: Global,

@@ -3,6 +3,10 @@
 //! A state has a range of integers, words with a bit for each integer of the range, the least
 //! first, and a flag, which is not 0 if a null was seen. Functions get these as `least` and
 //! `greatest`, both included in the range, `words` and `flag`.
+//!
+//! Each call fails with `NoRange` if `greatest` is less than `least` or the range has too many
+//! numbers (see `count_between`), and with `Room` if `words` has fewer bits than the range has
+//! numbers.
 
 ghost use Rattle.std.specs.Prelude.{◌≡◌, ◌≢◌, ◌≤◌, ◌*◌, length, pos, IfErr, IfOk, IfSome, IsNone};
 ghost use Rattle.std.specs.Prelude.{OnErr, OnOk};
@@ -325,7 +329,7 @@ fn list_state(
 /// becomes 1 if a null was seen, and else 0.
 ///
 /// Returns 0 on success. Otherwise returns the status of a `StateFault`, and nothing is written.
-/// The status is 3 if `out` is too short.
+/// The status is 3 if `out` or `words` is too short.
 #[unsafe(no_mangle)]
 pub extern "C" fn dunkelva_state_list(
     least: &Number,

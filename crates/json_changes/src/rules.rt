@@ -34,8 +34,9 @@ pub struct Rules {
     /// The patterns of the parts whose differences are never reported. Differences inside these
     /// parts are not reported either.
     pub ignored: Vec<Pattern>,
-    /// If this list is not empty, only differences of these parts are reported: parts that one of
-    /// the patterns names, parts inside them, and parts that contain them.
+    /// Patterns that limit the report. If there are any, only differences of these parts are
+    /// reported: parts that one of the patterns names, parts inside them, and parts that contain
+    /// them.
     pub only: Vec<Pattern>,
     /// `true` if a missing part is equal to null.
     pub missing_is_null: bool,

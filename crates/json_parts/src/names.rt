@@ -53,8 +53,8 @@ fn push_step(alloc: Global, path: &mut Vec<u8>, key: &str) -> Result<(), AllocEr
     Ok(())
 }
 
-/// Appends the step to the member named `key`, as [`push_step`] does. The contract also states that
-/// the text before the step is unchanged.
+/// Appends to a path the step that leads to the member named `key`, such as `.key`. The contract
+/// also states that the text before the step is unchanged.
 pub(crate) fn push_name(alloc: Global, path: &mut Vec<u8>, key: &str) -> Result<(), AllocError>
     ensures path { OnOk result
         (path.new.items ≡ path.old.items ++ name_text path.old.items key.now) }

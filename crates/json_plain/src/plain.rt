@@ -1,4 +1,4 @@
-//! JSON texts without control characters.
+//! Escapes for the control characters that JSON allows in strings.
 
 ghost use Rattle.std.specs.Fmt.{digit_glyph};
 ghost use Rattle.std.specs.Prelude.{◌≡◌, ◌<◌, ◌++◌, false, get_or, OnOk};
