@@ -2,8 +2,8 @@
 //!
 //! - `array_tot_eq_missing_kernel A B`, `array_tot_ne_missing_kernel A B`: the bits
 //! - `array_tot_eq_missing_kernel_with_steps A B`: `BITS in N comparisons`
-//! - `list_broadcast LISTS ITEMS`, `fixed_size_list_broadcast LISTS ITEMS`: the bits, including
-//!   those of masked rows
+//! - `list_broadcast LISTS ITEMS`, `fixed_size_list_broadcast LISTS ITEMS`: a bit for each list,
+//!   masked or not: 1 if its items are exactly the rows of ITEMS
 //! - `law_tally`, `law_steps`: `holds`
 
 ghost use Rattle.std.specs.Prelude.{◌≡◌, IfOk};

@@ -1,9 +1,11 @@
 //! Kernels of an array and a borrowed byte string or text. Their names have the prefixes `bytes_`
 //! and `text_`.
 //!
-//! - `bytes_tot_eq_kernel_broadcast ARRAY BYTES` and so on: the bits, with `x` for masked rows
-//! - `text_tot_eq_kernel_broadcast ARRAY BYTES` and so on: the bits for a text, written as its
-//!   bytes, with `x` for masked rows
+//! - `bytes_tot_eq_kernel_broadcast ARRAY BYTES`, and so of `ne`, `lt`, `le`, `gt` and `ge`: the
+//!   bits, with `x` for masked rows
+//! - `bytes_tot_eq_missing_kernel_broadcast ARRAY BYTES`, and so of `ne`: the bits
+//! - `text_tot_eq_kernel_broadcast ARRAY BYTES`, and in the same form each other call, with `text_`
+//!   in place of `bytes_`: the bits for a text, which is written as its bytes
 
 ghost use Rattle.recorded_text.specs.Cases.{HasGoodArrays};
 
@@ -22,7 +24,8 @@ use std::alloc::Global;
 use std::str::from_utf8;
 
 /// Reads the name of an array and a byte string from the next two words. Returns the text of the
-/// bits that compare each row with the byte string by the kernel of `question`.
+/// bits that compare each row with the byte string by the kernel of `question`. The error is `Case`
+/// if the kind of the array does not have this kernel.
 pub fn ask_bytes(
     alloc: Global,
     question: Question,
@@ -98,7 +101,7 @@ fn beside_bytes<A: BytesOrdKernel>(
 
 /// Reads the name of an array of texts and a text, written as bytes, from the next two words.
 /// Returns the text of the bits that compare each row with this text by the kernel of `question`.
-/// The error is `Word` if the bytes are not UTF-8.
+/// The error is `Word` if the bytes are not UTF-8, and `Case` if the array does not hold texts.
 pub fn ask_text(
     alloc: Global,
     question: Question,

@@ -1,4 +1,4 @@
-//! The calls by name.
+//! The calls of this crate, and the names that lines use for them.
 
 use crate::any_kind::{Law, ListKind};
 use crate::joining::Join;
@@ -26,7 +26,7 @@ pub enum Call {
     WithSteps,
     /// The comparison of each list with all rows of an array.
     Lists(ListKind),
-    /// A law, which is called.
+    /// The call of a law, a function that does nothing at run time.
     Law(Law),
     /// The comparison of two windows, and the number of comparisons of leaves.
     Counted(Counted),
@@ -36,7 +36,7 @@ pub enum Call {
     NumberWindows,
     /// A named comparison of these operands.
     Compared(Compared),
-    /// A call on rows of arrays of views.
+    /// A call on rows of arrays of views, or on a prepared byte string.
     Views(Asked),
     /// The join of raw bits with two masks.
     Join(Join),

@@ -1,8 +1,11 @@
-//! The join of raw bits with two masks.
+//! Calls of `join_masks`, which combines the bits of a raw comparison with the masks of both sides.
+//! RELATION is `equal` or `unequal`, the comparison that gave the raw bits BITS. A VALIDITY is `-`
+//! if there is none, or bits.
 //!
-//! - `join_nulls RELATION BITS VALIDITY VALIDITY`: the bits joined with masks made of the
-//!   validities; RELATION is `equal` or `unequal`
-//! - `join_masks RELATION BITS VALIDITY VALIDITY`: the bits joined with windows of validities
+//! - `join_nulls RELATION BITS VALIDITY VALIDITY`: the resulting bits, with masks that `Mask::lent`
+//!   makes of the validities
+//! - `join_masks RELATION BITS VALIDITY VALIDITY`: the resulting bits, with the bits of the
+//!   validities in place of masks
 
 ghost use Rattle.std.specs.Prelude.{◌≡◌};
 
@@ -17,7 +20,7 @@ use recorded_text::parts::{Kept, read_bits, read_validity};
 use recorded_text::words::Words;
 use std::alloc::Global;
 
-/// A call that joins raw bits with masks.
+/// A call that joins raw bits with masks: `join_nulls` or `join_masks`.
 #[derive(Clone, Copy)]
 pub enum Join {
     Nulls,
@@ -45,7 +48,8 @@ pub fn ask(alloc: Global, join: Join, words: &mut Words) -> Result<String, Fault
 }
 
 // Reads the right validity from the next words, and joins `raw` with it and with `left`, the left
-// one. Returns the text of the resulting bits.
+// one. Returns the text of the resulting bits. The error is `Case` if a validity has another length
+// than `raw`.
 fn join_left(
     alloc: Global,
     join: Join,

@@ -53,7 +53,7 @@ pub enum Order {
     GreaterOrEqual,
 }
 
-/// The kernels by name, without the affixes of broadcasts.
+/// The kernels by name. Calls that compare rows with a scalar add affixes to these names.
 pub const KERNELS: [(&str, Question); 8] = [
     ("tot_eq_kernel", Question::Equality(Equality::Equal)),
     ("tot_ne_kernel", Question::Equality(Equality::Unequal)),

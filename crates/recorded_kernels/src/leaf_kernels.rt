@@ -1,4 +1,4 @@
-//! Kernels of leaves, and their counts.
+//! Implementations of `LeafKernel` whose counters begin as those of `lent_counter`.
 
 ghost use Rattle.std.specs.Prelude.{◌≡◌};
 
@@ -12,7 +12,7 @@ use std::alloc::Global;
 
 /// A kernel of leaves with a counter that is created by `lent_counter`.
 pub trait SeenKernel: LeafKernel {
-    /// Creates a kernel with a counter of `lent_counter`.
+    /// Creates a kernel whose counter is one that `lent_counter` returns.
     fn new() -> Self;
 
     /// Returns the count of the kernel's counter, including the count that `lent_counter` begins

@@ -1,5 +1,15 @@
 //! Calls of kernels in recorded cases: equality and order of two arrays, of an array and a scalar,
 //! and of two windows, some with the number of comparisons of leaves.
+//!
+//! A call and its operands are words of a line, and the result is a text. The operands A and B are
+//! names of arrays. The indices `i`, `j`, `a` and `b` of rows begin at 0, and `n` is a number of
+//! rows. BYTES is `x` and two hexadecimal digits for each byte. In a result, bits are written as
+//! `b0:` and a digit for each bit, or `x` if the bit is not defined. An operand BITS looks alike,
+//! such as `b0:101`.
+//!
+//! In all functions that return a `Fault`, it is `Word` if a word is missing or malformed, `Case`
+//! if an array does not exist or the call does not take arrays of its kind, and `Memory` if an
+//! allocation fails. The functions name other reasons for `Case`.
 #![tactic(auto)]
 
 ghost use Rattle.recorded_text.specs.Cases.{HasGoodArrays};

@@ -2,10 +2,10 @@
 //! and `greater_or_equal`.
 //!
 //! - `truth_comparison COMPARISON TRUTH TRUTH`: whether the comparison of two truth values holds
-//! - `truth_comparison_masks COMPARISON BITS BITS`: for two windows of equal length, whether it
-//!   holds at each place
+//! - `truth_comparison_masks COMPARISON BITS BITS`: a bit for each index of two bit sequences of
+//!   equal length: 1 if the comparison of the two bits holds
 //! - `byte_comparison COMPARISON BYTES BYTES`, `byte_comparison_constant COMPARISON BYTES BYTES`:
-//!   whether the comparison of two byte strings holds
+//!   whether the comparison of two byte strings holds, by `compare` or by `compare_constant`
 //!
 //! The calls of `stored_rows` and of `stored_numbers`, and some of `view_rows`, take a comparison
 //! too.
@@ -101,11 +101,11 @@ pub(crate) use with_comparison;
 pub enum Compared {
     /// Two truth values.
     TwoTruths,
-    /// The bits of two windows.
+    /// Two bit sequences, compared at each index.
     Masks,
     /// Two byte strings.
     TwoStrings,
-    /// Two byte strings, by the form for a constant right one.
+    /// Two byte strings, compared by `compare_constant`.
     StringAndConstant,
     /// Two rows of arrays of views.
     TwoViews,
@@ -178,8 +178,8 @@ fn compare_truths<C: TruthComparison>(
     write_truth(alloc, comparison.compare(left, right))
 }
 
-// Reads the bits of two windows from the next two words, and compares them at each place. Returns
-// the text of the resulting bits. The error is `Case` if the lengths differ.
+// Reads two bit sequences from the next two words, and compares them at each index. Returns the
+// text of the resulting bits. The error is `Case` if the lengths differ.
 fn compare_bits<C: TruthComparison>(
     alloc: Global,
     comparison: &C,

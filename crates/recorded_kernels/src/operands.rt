@@ -26,12 +26,14 @@ pub fn read_two<'a>(
     Ok((left, right))
 }
 
-/// Reads bytes from the next word.
+/// Reads bytes from the next word: `x` and two hexadecimal digits for each byte. The error is
+/// `Word` if there is no such word, or else `Memory`.
 pub fn read_next_bytes(alloc: Global, words: &mut Words) -> Result<Vec<u8>, Fault> {
     read_bytes(alloc, words.read()?)
 }
 
-/// Reads a truth value from the next word. The error is `Word` if it is not `true` or `false`.
+/// Reads a truth value from the next word. The error is `Word` if the next word is neither `true`
+/// nor `false`, or is missing.
 pub fn read_truth(words: &mut Words) -> Result<bool, Fault> {
     match words.read()? {
         "true" => Ok(true),
@@ -40,7 +42,7 @@ pub fn read_truth(words: &mut Words) -> Result<bool, Fault> {
     }
 }
 
-/// Returns the text of a truth value.
+/// Returns the text `true` or `false`. The error is `Memory`.
 pub fn write_truth(alloc: Global, truth: bool) -> Result<String, Fault> {
     Ok(truth.to_string(alloc)?)
 }

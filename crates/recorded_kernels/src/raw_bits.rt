@@ -1,4 +1,5 @@
-//! Raw bits of two arrays as text. They are defined where both rows are present.
+//! Text of the bits of a raw comparison of two arrays. Such a bit is defined only where both rows
+//! are present.
 
 use polars_arrays_bits::bitmap::Bitmap;
 use polars_arrays_bits::error::ComputeError;

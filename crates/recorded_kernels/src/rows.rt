@@ -1,8 +1,8 @@
 //! Kernels of two arrays of one kind.
 //!
-//! - `can_compare A B`: a truth value
-//! - `tot_eq_kernel A B`, and so of `ne`, `lt`, `le`, `gt` and `ge`: the bits, with `x` for masked
-//!   rows
+//! - `can_compare A B`: a truth value, whether the kernels of equality can be called on A and B
+//! - `tot_eq_kernel A B`, and so of `ne`, `lt`, `le`, `gt` and `ge`: the bits, with `x` where a row
+//!   of A or B is masked
 //! - `tot_eq_missing_kernel A B`, `tot_ne_missing_kernel A B`: the bits
 
 ghost use Rattle.polars_arrays_nested.specs.GoodParts.{IsGood};
@@ -84,7 +84,8 @@ pub fn ask_rows<A: TotalEqKernel + TotalOrdKernel>(
 }
 
 // Returns the text of the answer to `question` about the rows of two arrays. The error is `Case` if
-// it asks for an order, or for equality of arrays that can't be compared.
+// `question` is a kernel of order, or if it is a kernel of equality and the arrays can't be
+// compared (`can_compare`).
 fn equal_rows<A: TotalEqKernel>(
     alloc: Global,
     question: Question,

@@ -1,12 +1,14 @@
 //! Kernels of an array and an owned scalar: a number, a truth value, the bytes of a string or of a
-//! text, or the name of an array whose rows are the items of a list.
+//! text, or the name of an array. For an array of lists, the rows of the named array are the items
+//! of one list.
 //!
-//! - `can_broadcast A SCALAR`: a truth value
+//! - `can_broadcast A SCALAR`: a truth value, whether a kernel of equality can be called
 //! - `tot_eq_kernel_broadcast A SCALAR`, and so of `ne`, `lt`, `le`, `gt` and `ge`: the bits, with
 //!   `x` for masked rows
 //! - `tot_eq_missing_kernel_broadcast A SCALAR`, and so of `ne`: the bits
 //!
-//! For a kind without broadcasts the result is `refused: not supported`.
+//! Arrays of nulls, structs or dictionary entries have no broadcasts. For them, a kernel of
+//! equality gives `refused: not supported`, although `can_broadcast` gives `true`.
 
 ghost use Rattle.polars_arrays_nested.specs.GoodParts.{IsGood};
 ghost use Rattle.recorded_text.specs.Cases.{HasGoodArrays};
@@ -29,7 +31,8 @@ use std::str::from_utf8;
 
 /// Reads the name of an array and a scalar from the next two words, and returns the text of the
 /// answer to `question` about them. The kind of the array decides how the scalar is written or
-/// named.
+/// named. The error is `Case` if the kind does not have the kernel, or if `can_broadcast` returns
+/// `false` for a kernel of equality.
 pub fn ask(
     alloc: Global,
     question: Question,
@@ -75,7 +78,8 @@ fn ask_bytes(
     }
 }
 
-// Reads a text, and returns the text of the answer to `question` about `array` and this scalar.
+// Reads a text, and returns the text of the answer to `question` about `array` and this scalar. The
+// error is `Case` if `array` does not hold texts.
 fn ask_text(
     alloc: Global,
     question: Question,
@@ -96,8 +100,8 @@ fn read_text(alloc: Global, words: &mut Words) -> Result<String, Fault> {
 }
 
 // Returns the text of the answer to `question` about `array`, which has lists, structs, dictionary
-// entries or nulls as rows, and `scalar`. The error is `Case` for other kinds or questions of
-// order.
+// entries or nulls as rows, and `scalar`. The error is `Case` if `array` is of another kind, or as
+// in `ask_equality`.
 fn ask_array(
     alloc: Global,
     question: Question,
@@ -111,7 +115,8 @@ fn ask_array(
         Null List FixedSizeList Struct Dictionary)
 }
 
-/// Returns the text of the answer to `question` about rows that have an order and `scalar`.
+/// Returns the text of the answer to `question` about `rows`, which have an order, and `scalar`.
+/// The error is `Case` for a kernel of equality if `can_broadcast` returns `false`.
 pub fn ask_scalar<S, A: TotalEqKernel<Scalar = S> + TotalOrdKernel<Scalar = S>>(
     alloc: Global,
     question: Question,
@@ -127,8 +132,9 @@ pub fn ask_scalar<S, A: TotalEqKernel<Scalar = S> + TotalOrdKernel<Scalar = S>>(
     }
 }
 
-// Returns the text of the answer to `question` about `rows` and `scalar`. The error is `Case` if it
-// asks for an order, or if `can_broadcast` returns `false` for a kernel of equality.
+// Returns the text of the answer to `question` about `rows` and `scalar`. The error is `Case` if
+// `question` is a kernel of order, or if it is a kernel of equality and `can_broadcast` returns
+// `false`.
 fn ask_equality<A: TotalEqKernel>(
     alloc: Global,
     question: Question,

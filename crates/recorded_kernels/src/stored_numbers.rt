@@ -2,9 +2,9 @@
 //! validity. A COMPARISON is one of `named_comparisons`.
 //!
 //! - `compare_number_windows COMPARISON A a B b n`: for `n` rows from row `a` on of A and from row
-//!   `b` on of B, whether the comparison holds at each place
-//! - `compare_number COMPARISON A NUMBER`: for each number, whether the comparison with a constant
-//!   holds
+//!   `b` on of B, a bit for each pair of numbers: 1 if the comparison holds
+//! - `compare_number COMPARISON A NUMBER`: a bit for each number of A: 1 if the comparison with
+//!   NUMBER holds
 
 ghost use Rattle.std.specs.Prelude.{◌+◌, ◌≤◌, length};
 ghost use Rattle.recorded_text.specs.Cases.{HasGoodArrays};
@@ -115,7 +115,8 @@ fn passing<T: NativeType>(
 }
 
 /// Returns the text of the result of `asked` for two arrays of numbers of one type. The error is
-/// `Case` if their types differ, if they do not hold numbers, or if a window is out of range.
+/// `Case` if their types differ, if they do not hold numbers, if a window is out of range, or if
+/// the kernel can't be called on them.
 pub fn ask_both(
     alloc: Global,
     asked: AskedBoth<'_>,

@@ -1,12 +1,13 @@
 //! Comparisons of stored rows, whatever the validity. A COMPARISON is one of `named_comparisons`.
+//! The result BITS has a bit for each pair of rows, or for each row: 1 if the comparison holds.
 //!
-//! - `compare_truth_windows COMPARISON A a B b n`, and so of `byte` and `sized`: whether the
-//!   comparison holds at each place
-//! - `compare_view_windows COMPARISON A a B b n`: `BITS in N`, where N is the number of pairs
-//!   looked up in buffers
-//! - `compare_truth COMPARISON A TRUTH`: whether the comparison of each row with a constant holds
-//! - `compare_bytes COMPARISON A BYTES`, `compare_view_bytes COMPARISON A BYTES`: whether the
-//!   comparison of each row with a constant holds
+//! - `compare_truth_windows COMPARISON A a B b n`, and in the same form `compare_byte_windows` and
+//!   `compare_sized_windows`: BITS for two windows
+//! - `compare_view_windows COMPARISON A a B b n`: `BITS in N` for two windows, where N is the
+//!   number of pairs looked up in buffers
+//! - `compare_truth COMPARISON A TRUTH`: BITS for the rows of A and a constant
+//! - `compare_bytes COMPARISON A BYTES`, `compare_view_bytes COMPARISON A BYTES`: BITS for the rows
+//!   of A and a constant
 //!
 //! A window is `n` rows from row `a` on of A, and from row `b` on of B.
 
@@ -33,9 +34,9 @@ use recorded_text::store::Store;
 use recorded_text::words::Words;
 use std::alloc::Global;
 
-/// Reads two windows, and compares their stored rows by the function for `compared`. Returns the
-/// text of the bits. The error is `Case` if the arrays are of another kind, or a window is out of
-/// range.
+/// Reads two windows, and compares their stored rows. `compared` says of which kind the arrays are.
+/// Returns the text of the bits; for views, also of the number of pairs looked up in buffers. The
+/// error is `Case` if the arrays are of another kind, or a window is out of range.
 pub fn ask_windows<C: TruthComparison + ByteComparison + ViewComparison>(
     alloc: Global,
     comparison: &C,
@@ -80,7 +81,8 @@ fn truth_windows<C: TruthComparison>(
 }
 
 // Returns the text of the bits that compare the stored byte strings of two windows. The arrays must
-// be of one kind, or of the kinds `Binary` and `Utf8View`. Otherwise the error is `Case`.
+// be of one kind that holds byte strings or texts, or the left of kind `Binary` and the right of
+// kind `Utf8View`. Otherwise, or if a window is out of range, the error is `Case`.
 fn string_windows<C: ByteComparison>(
     alloc: Global,
     comparison: &C,
@@ -187,7 +189,8 @@ pub fn ask_constant<C: TruthComparison + ByteComparison + ViewComparison>(
     }
 }
 
-// Compares each byte string of an array with a constant, which is the next word.
+// Reads a byte string from the next word, and returns the text of the bits that compare each stored
+// byte string or text of `array` with it. The error is `Case` if `array` is of another kind.
 fn strings_beside<C: ByteComparison>(
     alloc: Global,
     comparison: &C,
@@ -210,7 +213,8 @@ fn passing_strings<C: ByteComparison>(
         Binary LargeBinary Utf8 LargeUtf8 BinaryView Utf8View FixedSizeBinary)
 }
 
-// Compares each byte string of an array of views with a constant, which is the next word.
+// Reads a byte string from the next word, and returns the text of the bits that compare each stored
+// row of `array`, an array of views, with it. The error is `Case` if `array` is of another kind.
 fn views_beside<C: ViewComparison>(
     alloc: Global,
     comparison: &C,

@@ -1,15 +1,17 @@
-//! Single rows of arrays of views, and the kernels that count the pairs they look up in buffers.
+//! Calls on single rows of arrays of views, and of kernels that count the pairs of rows looked up
+//! in buffers.
 //!
 //! - `rows_equal A i B j`, `row_less A i B j`: `TRUTH in N`, where N is the number of pairs looked
 //!   up in buffers
 //! - `row_equals_bytes A i BYTES`, `row_less_bytes A i BYTES`, `bytes_less_row BYTES A i`: a truth
 //!   value
-//! - `view_comparison COMPARISON A i B j`, `view_comparison_bytes COMPARISON A i BYTES`: the result
-//!   of one of `named_comparisons`, in the same form
-//! - `tot_eq_kernel_followed A B`, `tot_lt_kernel_followed A B`: `BITS in N`, including masked rows
-//! - `followed A B`: the two counts alone
-//! - `scalar_row_len BYTES`, `scalar_row_bytes BYTES`, `scalar_row_prefix BYTES`: a part of the
-//!   prepared byte string
+//! - `view_comparison COMPARISON A i B j`: `TRUTH in N`, for a comparison of `named_comparisons`
+//! - `view_comparison_bytes COMPARISON A i BYTES`: a truth value
+//! - `tot_eq_kernel_followed A B`, `tot_lt_kernel_followed A B`: `BITS in N`. Masked rows are
+//!   compared by their stored values
+//! - `followed A B`: the numbers N of these two kernels, separated by a space
+//! - `scalar_row_len BYTES`, `scalar_row_bytes BYTES`, `scalar_row_prefix BYTES`: the length, the
+//!   bytes, or the prefix of the view of a byte string that is prepared as a `ScalarRow`
 
 ghost use Rattle.std.specs.Prelude.{◌≡◌, ◌<◌, length, IfOk};
 ghost use Rattle.recorded_text.specs.Cases.{HasGoodArrays};
@@ -35,7 +37,8 @@ use recorded_text::store::Store;
 use recorded_text::words::Words;
 use std::alloc::Global;
 
-/// A call on rows of arrays of views.
+/// A call on rows of arrays of views, or on a prepared byte string. A comment gives the operands of
+/// the variants from there to the next comment.
 #[derive(Clone, Copy)]
 pub enum Asked {
     /// Two rows.
@@ -70,7 +73,8 @@ pub fn ask(alloc: Global, asked: Asked, store: &Store, words: &mut Words) -> Res
     }
 }
 
-/// Returns the array of views inside `array`. The error is `Case` if it is of another kind.
+/// Returns the views inside `array`, an array of byte strings (`BinaryView`) or of texts
+/// (`Utf8View`). The error is `Case` if `array` is of another kind.
 pub fn as_views(array: &AnyArray) -> Result<&BinaryViewArray, Fault> {
     match array {
         AnyArray::BinaryView(views) => Ok(views),
@@ -94,13 +98,13 @@ fn read_row<'a>(store: &'a Store, words: &mut Words) -> Result<(&'a BinaryViewAr
     }
 }
 
-// Returns `truth in N`, where N is the count of `steps`, which began at 0.
+// Returns the text `TRUTH in N`, where N is the count of `steps`, a counter that began at 0.
 fn write_counted(alloc: Global, truth: bool, steps: &Steps) -> Result<String, Fault> {
     Ok(format!(in alloc; "{truth} in {}", steps.seen())?)
 }
 
-/// Returns the text of `bits` and the increase of `steps`, a counter of `lent_counter`. If `bits`
-/// is an error, converts it to a `Fault`.
+/// Returns the text `BITS in N`, where N is the increase of `steps`, a counter that `lent_counter`
+/// created. If `bits` is an error, converts it to a `Fault`.
 pub fn write_followed(
     alloc: Global,
     bits: Result<Bitmap, ComputeError>,
@@ -161,7 +165,8 @@ fn row_and_bytes(
     write_truth(alloc, truth)
 }
 
-// Reads a byte string and a row, and returns the text that says whether the string is less.
+// Reads a byte string and a row, and returns the text that says whether the string is less than the
+// row.
 fn bytes_and_row(alloc: Global, store: &Store, words: &mut Words) -> Result<String, Fault>
     requires { HasGoodArrays store.now }
 {
@@ -186,7 +191,9 @@ pub fn compare_with_bytes<C: ViewComparison>(
     write_truth(alloc, passes)
 }
 
-// Reads the names of two arrays of views of one kind, and returns the result of `rows_followed`.
+// Reads the names of two arrays of views, and returns the text of the result of `asked` for all
+// their rows. The error is `Case` if the arrays are not both of kind `BinaryView` or both of kind
+// `Utf8View`, or if their lengths differ.
 fn all_rows(alloc: Global, asked: Asked, store: &Store, words: &mut Words) -> Result<String, Fault>
     requires { HasGoodArrays store.now }
 {
@@ -195,9 +202,10 @@ fn all_rows(alloc: Global, asked: Asked, store: &Store, words: &mut Words) -> Re
         BinaryView Utf8View)
 }
 
-// Returns the text of the bits that say where stored rows are equal, or less for `LessRows`, and of
-// the number of pairs looked up. For `Followed`, returns the two numbers of `pairs_followed`. The
-// error is `Case` if the lengths differ.
+// Returns the text of a bit for each index, and of the number of pairs looked up. A bit says
+// whether the two stored rows are equal, or for `LessRows`, whether the left one is less. For
+// `Followed`, returns the two numbers of `pairs_followed`. The error is `Case` if the lengths
+// differ.
 fn rows_followed<A: FollowedKernel>(
     alloc: Global,
     asked: Asked,
@@ -227,7 +235,8 @@ fn pairs_followed<A: FollowedKernel>(alloc: Global, left: &A, right: &A) -> Resu
     Ok(format!(in alloc; "{} {}", equal.seen(), less.seen())?)
 }
 
-// Reads a byte string, prepares it as a `ScalarRow`, and returns the part that `asked` names.
+// Reads a byte string, prepares it as a `ScalarRow`, and returns the text of the part that `asked`
+// names.
 fn scalar(alloc: Global, asked: Asked, words: &mut Words) -> Result<String, Fault> {
     let bytes = read_next_bytes(alloc, words)?;
     write_scalar(alloc, asked, &ScalarRow::new(&bytes))

@@ -1,12 +1,14 @@
 //! Windows of two arrays of any kind: `n` rows from row `a` on of the left array and from row `b`
 //! on of the right one.
 //!
-//! - `array_tot_eq_missing_kernel_counted A B [LEAVES]`, and so of `ne`: `BITS in N comparisons`
+//! - `array_tot_eq_missing_kernel_counted A B [LEAVES]`, and so of `ne`, for all rows of two
+//!   arrays: `BITS in N comparisons`
 //! - `equal_windows A a B b n [LEAVES]`: `BITS in N comparisons`
-//! - `eq_lists`, `eq_fixed_size_lists`, `eq_structs`, `eq_dictionaries`, `leaf_eq`:
-//!   `BITS in N comparisons`, with `x` for masked rows
+//! - `eq_lists`, `eq_fixed_size_lists`, `eq_structs`, `eq_dictionaries`, `leaf_eq`, with the
+//!   operands of `equal_windows`: `BITS in N comparisons`, with `x` for masked rows
 //!
-//! LEAVES is `always` or `never`, for a kernel in which all leaves agree, or none.
+//! LEAVES is `always` or `never`, for a kernel in which all leaves agree, or none. Without it,
+//! leaves agree if they are equal.
 
 ghost use Rattle.std.specs.Prelude.{◌≡◌, ◌+◌, ◌≤◌, IfOk, IsTrue};
 ghost use Rattle.polars_arrays_nested.specs.GoodParts.{IsGood};
@@ -47,14 +49,15 @@ pub struct Windows<'a> {
     pub n: usize,
 }
 
-/// A call that counts the comparisons of leaves.
+/// A call that counts the comparisons of leaves. `Lists` and the variants after it compare the
+/// stored rows of windows of two arrays of the kind in their name.
 #[derive(Clone, Copy)]
 pub enum Counted {
     /// The equal or the unequal rows of two whole arrays, null equal to null alone.
     Missing(Relation),
     /// The equal rows of windows, null equal to null alone.
     Windows,
-    /// The equal stored rows of windows, by the kind of the arrays.
+    /// The equal stored lists of windows.
     Lists,
     FixedSizeLists,
     Structs,
@@ -64,7 +67,8 @@ pub enum Counted {
 
 /// Reads two windows, or two whole arrays for `Missing`, and then `always` or `never` if there is
 /// such a word. Returns the text of the bits of `call` and the number of comparisons of leaves. The
-/// error is `Case` if the types differ, or a window is out of range.
+/// error is `Case` if the types of the arrays differ, if `call` does not compare arrays of their
+/// kind, if a window is out of range, or for `Missing` if the lengths differ.
 pub fn ask(alloc: Global, call: Counted, store: &Store, words: &mut Words) -> Result<String, Fault>
     requires { HasGoodArrays store.now }
 {
@@ -137,7 +141,7 @@ fn read_all_rows<'a>(store: &'a Store, words: &mut Words) -> Result<Windows<'a>,
     })
 }
 
-/// Returns whether `n` places from place `at` on are among `len`.
+/// Returns whether the `n` places from place `at` on are all below `len`.
 pub fn is_within(at: usize, n: usize, len: usize) -> bool
     ensures { IsTrue result → at + n ≤ len }
 {

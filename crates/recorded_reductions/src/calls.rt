@@ -9,7 +9,7 @@ pub enum Call {
     Extremes(Subject, Extremes),
     /// A call for the extremes of an array of any kind. The field says which are returned.
     Dispatched(Extremes),
-    /// A call for the best byte string of an array.
+    /// A call for the best byte string of an array: the least or the greatest, as the line says.
     Best(Best),
     /// A call that joins two scalars bit by bit.
     Join(Join),
@@ -69,12 +69,12 @@ pub enum Extremes {
     MinMaxPropagate,
 }
 
-/// A call for the best byte string of an array.
+/// The part that is returned of the best byte string of an array: the least or the greatest one.
 #[derive(Clone, Copy)]
 pub enum Best {
-    /// The index of the row.
+    /// The index of its row.
     Place,
-    /// The bytes of the row.
+    /// Its bytes.
     Bytes,
 }
 

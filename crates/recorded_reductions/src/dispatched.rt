@@ -47,7 +47,8 @@ fn push_extreme(
 }
 
 // Appends the two rows in `answer`, each after its kind, to `text`, or `none` if no row is present.
-// If `answer` is an error, does as `push_extreme`.
+// If `answer` is an error, appends `refused:` and the error, or returns `Memory` if an allocation
+// failed.
 fn push_both(
     text: &mut String,
     answer: Result<Option<(AnyScalar<'_>, AnyScalar<'_>)>, ComputeError>,
@@ -103,7 +104,8 @@ fn push_plain<T: Copy + Display>(text: &mut String, name: &str, scalar: T) -> Re
     write!(text, "{name}{scalar}").map_err(Fault::from)
 }
 
-// Appends `name` and the digits of a byte string to `text`, as `push_bytes` does.
+// Appends `name` and a byte string to `text`, the string as `x` and two hexadecimal digits for each
+// byte.
 fn push_string(text: &mut String, name: &str, bytes: &[u8]) -> Result<(), Fault> {
     text.push_str(name)?;
     push_bytes(text, bytes)

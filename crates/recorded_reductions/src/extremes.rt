@@ -3,11 +3,12 @@
 //! `none` if no row is present, or if a slice is empty. No row is a NaN, so each call with
 //! `propagate_nan` in its name returns the same as the one with `ignore_nan`.
 //!
-//! - `min_ignore_nan_kernel A`, and the same with `max` or `min_max`: of the present rows of an
-//!   array of numbers or truth values
+//! - `min_ignore_nan_kernel A`, and in the same form with `max` or `min_max`: of the present rows
+//!   of an array of numbers or truth values
 //! - `slice_min_ignore_nan_kernel A`, and so on: of the stored numbers of A, including those of
 //!   null rows
 //! - `bytes_min_ignore_nan_kernel A`, and so on: of the present rows of an array of byte strings
+//!   that may differ in length
 //! - `text_min_ignore_nan_kernel A`, and so on: of the present rows of an array of texts, which are
 //!   compared as bytes
 
@@ -72,8 +73,8 @@ fn push_extremes<K: MinMaxKernel<Scalar: Display>>(
     }
 }
 
-// Appends the extremes of the present rows of `array`, which must hold byte strings of any length.
-// The error is `Case` if it does not, or else `Memory`.
+// Appends the extremes of the present rows of `array`, which must hold byte strings and not be a
+// `FixedSizeBinary` array. The error is `Case` if it is of another kind, or else `Memory`.
 fn push_of_bytes(text: &mut String, asked: Extremes, array: &AnyArray) -> Result<(), Fault>
     requires { IsGood array.now }
 {

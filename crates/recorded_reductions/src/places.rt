@@ -21,8 +21,8 @@ use recorded_text::store::Store;
 use recorded_text::words::Words;
 
 /// Reads a preference and the name of an array from `words`, and appends the place or the bytes of
-/// the best row to `text`, as `best` says. The error is `Word` if there is no such preference, or
-/// else as in `push_preferred`.
+/// the best row to `text`, as `best` says. The error is `Word` if there is no such preference,
+/// `Case` if the array does not hold byte strings or texts, or else `Memory`.
 pub fn push_answer(
     text: &mut String,
     best: Best,
