@@ -1,6 +1,7 @@
 //! Operations on arrays of numbers of a type of 8 to 64 bits.
 //!
-//! Each item below gives a call. Its result is the array of the results, as text.
+//! Each item below gives a call. Its result is the array of the results, as text. Results are
+//! wrapped to the type. A result is null if an operand is null, or if the divisor is 0.
 //!
 //! - `wrapping_abs A` and `wrapping_neg A`: for the numbers of an array
 //! - `wrapping_add A B`, and in the same form `wrapping_sub`, `wrapping_mul`, `wrapping_floor_div`,
@@ -54,7 +55,7 @@ fn apply<T: HasPrimitiveArithmeticKernel>(
 }
 
 /// Reads two operands, applies the operation to the numbers at each index, and returns the results
-/// as text.
+/// as text. The error is `Case` if the operands differ in type or length.
 pub fn of_arrays(
     alloc: Global,
     operation: Operation,
@@ -105,7 +106,8 @@ fn operate<T: HasPrimitiveArithmeticKernel>(
 }
 
 /// Reads an operand and a number, applies the operation to each number of the operand and the
-/// number, and returns the results as text.
+/// number, and returns the results as text. The error is `Word` if the number is not one of the
+/// operand's type.
 pub fn of_array_and_number(
     alloc: Global,
     operation: Operation,
@@ -153,7 +155,8 @@ fn operate_by<T: HasPrimitiveArithmeticKernel>(
 }
 
 /// Reads a number and an operand, applies the operation to the number and each number of the
-/// operand, and returns the results as text.
+/// operand, and returns the results as text. The error is `Word` if the number is not one of the
+/// operand's type, and `Case` for `Add` and `Mul`, which have no such form.
 pub fn of_number_and_array(
     alloc: Global,
     operation: Operation,
@@ -168,7 +171,7 @@ pub fn of_number_and_array(
 
 /// Applies an operation to the number that `word` gives and each number of the rows `part` of an
 /// array, and returns the results as text. The error is `Word` if `word` gives no number of the
-/// array's type.
+/// array's type, and `Case` for `Add` and `Mul`, which have no such form.
 pub fn write_operated_from<T: HasPrimitiveArithmeticKernel + Display + FromStr<Err: Drop>>(
     alloc: Global,
     operation: Operation,

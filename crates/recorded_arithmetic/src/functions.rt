@@ -188,7 +188,7 @@ impl Choice {
         }
     }
 
-    // Returns `x` as the left value or `y` as the right value, as chosen.
+    // Returns the chosen one of the left value `x` and the right value `y`.
     fn apply<T: NativeType>(self, x: T, y: T) -> T {
         match self {
             Choice::Left => x,
@@ -200,7 +200,7 @@ impl Choice {
 
 /// Reads the name of a `Choice` and two operands, chooses a value at each index with
 /// `prim_binary_in_place`, and returns the rows of the result as text. The error is `Case` if no
-/// choice has the name.
+/// choice has the name, or if the operands differ in type or length.
 pub fn binary_in_place(alloc: Global, store: &Store, words: &mut Words) -> Result<String, Fault>
     requires { HasGoodArrays store.now }
 {

@@ -1,4 +1,4 @@
-//! Macros that match arrays of numbers with arithmetic, by their kinds.
+//! Macros that match on the kinds of arrays of numbers, for calls that exist for several kinds.
 
 /// Evaluates an expression with `$array` bound to the array of numbers inside `$any`, for numbers
 /// of 8 to 64 bits. The error is `Case` for an array of any other kind.

@@ -39,7 +39,8 @@ pub enum Asked<'a> {
     SumMasked(&'a Bitmap),
 }
 
-/// Reads an operand from the next words, makes the call on it, and returns the result as text.
+/// Reads an operand from the next words, makes the call `asked` on it, and returns the result as
+/// text. The errors are those of `read_operand` and `ask`.
 pub fn ask_next(
     alloc: Global,
     asked: Asked<'_>,
@@ -51,8 +52,8 @@ pub fn ask_next(
     ask(alloc, asked, read_operand(store, words)?)
 }
 
-/// Makes a call on an array, and returns the result as text. The error is `Case` if the array is
-/// not of numbers of 8 to 64 bits; other errors are those of the call.
+/// Makes the call `asked` on the rows of `these`, and returns the result as text. The error is
+/// `Case` if the array is not of numbers of 8 to 64 bits; other errors are those of the call.
 pub fn ask(alloc: Global, asked: Asked<'_>, these: Operand<'_>) -> Result<String, Fault> {
     of_numbers!(these.array, array => ask_numbers(alloc, asked, array, these.part))
 }
@@ -87,8 +88,9 @@ pub enum AskedBoth {
     Choose(Choice),
 }
 
-/// Makes a call on two arrays, and returns the result as text. The error is `Case` if the arrays
-/// are not of numbers of one type of 8 to 64 bits; other errors are those of the call.
+/// Makes the call `asked` on the rows of `these` and `those`, and returns the result as text. The
+/// error is `Case` if the arrays are not of numbers of one type of 8 to 64 bits; other errors are
+/// those of the call.
 pub fn ask_both(
     alloc: Global,
     asked: AskedBoth,

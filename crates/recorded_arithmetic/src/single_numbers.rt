@@ -1,4 +1,4 @@
-//! Operations on single numbers of a type of 8 to 64 bits.
+//! Operations on single numbers of a type of 8 to 64 bits. Results are wrapped to the type.
 //!
 //! - `pl_num wrapping_abs TYPE NUMBER` and `pl_num wrapping_neg TYPE NUMBER`: the function's result
 //! - `pl_num wrapping_add TYPE NUMBER NUMBER`, and in the same form `wrapping_sub`, `wrapping_mul`,

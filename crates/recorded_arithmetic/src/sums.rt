@@ -21,7 +21,8 @@ use std::alloc::Global;
 use std::fmt::Display;
 
 /// Reads an operand and bits from the next words, and returns the sum of the stored values with a 1
-/// in the bits, as text.
+/// in the bits, as text. The error is `Case` if the number of bits is not the number of rows of the
+/// operand.
 pub fn of_masked_values(alloc: Global, store: &Store, words: &mut Words) -> Result<String, Fault>
     requires { HasGoodArrays store.now }
 {

@@ -74,7 +74,7 @@ fn write_rows<S: RecordedState>(alloc: Global, rows: &S::Array) -> Result<String
 }
 
 // Reads a range from `words`, creates a state of the range, and appends clones of the arrays that
-// the remaining words name.
+// the remaining words name. The errors are those of `read_new` and `append_copies`.
 fn state_of_all<N: NewStates>(
     alloc: Global,
     store: &Store,

@@ -11,7 +11,8 @@ use recorded_text::store::Store;
 use recorded_text::words::Words;
 use std::alloc::Global;
 
-/// Appends `array` to `state`. The error is `Case` if the state does not accept the array.
+/// Appends `array` to `state`. The error is `Case` if the state does not accept the array; the
+/// state is then unchanged.
 pub fn append<S: RangedUniqueKernel>(state: &mut S, array: &S::Array) -> Result<(), Fault> {
     if !state.accepts(array) {
         return Err(Fault::Case);
@@ -20,7 +21,8 @@ pub fn append<S: RangedUniqueKernel>(state: &mut S, array: &S::Array) -> Result<
     Ok(())
 }
 
-/// Merges `other` into `state`. The error is `Case` if their ranges differ.
+/// Merges `other` into `state`. The error is `Case` if their ranges differ; `state` is then
+/// unchanged.
 pub fn join<S: RangedUniqueKernel>(state: &mut S, other: &S) -> Result<(), Fault> {
     if !state.same_range(other) {
         return Err(Fault::Case);
@@ -39,6 +41,7 @@ pub fn rows_named<'a, S: RecordedState>(store: &'a Store, name: &str) -> Result<
 
 /// Appends the arrays of `store` that `names` lists to `state`, in this order. The error is `Case`
 /// if there is no array of a name, if it is of the wrong kind, or if the state does not accept it.
+/// The arrays before it stay appended.
 pub fn append_named<S: RecordedState>(
     state: &mut S,
     store: &Store,
@@ -76,8 +79,9 @@ pub fn if_done<S: RecordedState>(state: S, done: Result<(), Fault>) -> Result<S,
     }
 }
 
-/// Creates the state of a column. The first of `words` give the range of the state, and the others
-/// name the arrays of `store` to append. The errors are those of `N::read` and `gathered`.
+/// Creates the state of a column, and appends the arrays of the column. The first of `words` give
+/// the range of the state, and the others name the arrays. The errors are those of `N::read` and
+/// `gathered`.
 pub fn read_state<N: NewStates>(
     alloc: Global,
     store: &Store,

@@ -1,5 +1,6 @@
 //! Calls on states of the keys of a dictionary. Such a state has the entries of the dictionary, and
-//! an inner state of numbers for the keys (`key_state`).
+//! an inner state of numbers for the keys (`key_state`). The calls that are not listed here are
+//! described in `conditions`, `appending`, `pairs` and `trees`.
 //!
 //! - `key_state V MIN MAX A..`: a state with the entries V, in the form that `seen` describes. Its
 //!   inner state was replaced by a state of the numbers from MIN to MAX, to which the arrays A..,
@@ -106,8 +107,8 @@ fn state_put(
 }
 
 // Reads the operands of `key_state_accepts` from `words`: the name of the entries, the first and
-// the last number, and the name of a dictionary array. Returns `true` if the state accepts the
-// array, or else `false`.
+// the last number, and the name of a dictionary array. Returns the text `true` if the state accepts
+// the array, or else `false`.
 fn write_accepted(alloc: Global, store: &Store, words: &mut Words) -> Result<String, Fault>
     requires { HasGoodArrays store.now }
 {

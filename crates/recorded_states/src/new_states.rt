@@ -1,5 +1,4 @@
-//! Sources of new states. A source says which range of values a state has, and creates states of
-//! it.
+//! Sources of new states. A source has a range of values, and creates states of that range.
 
 ghost use Rattle.std.specs.Prelude.{IfOk};
 ghost use Rattle.polars_arrays_nested.specs.GoodParts.{IsGood};
@@ -17,12 +16,14 @@ use recorded_text::words::Words;
 use std::alloc::Global;
 use std::marker::Model;
 
-/// A source of new states, which all have the same range.
+/// A source of new states, which all have the same range. Types of sources are `NumberRange`,
+/// `Truths` and `Entries`.
 pub trait NewStates: Sized + Drop {
     /// The type of the states.
     type State: RecordedState;
 
-    /// Reads a range from the next words. `store` has the arrays that these words may name.
+    /// Reads a range from the next words. `store` has the arrays that these words may name. Does
+    /// not test whether a state of the range can be created.
     fn read(alloc: Global, store: &Store, words: &mut Words) -> Result<Self, Fault>
         requires { HasGoodArrays store.now };
 

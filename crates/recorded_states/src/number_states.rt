@@ -1,4 +1,5 @@
 //! Calls on states of numbers. The first word after the name of a call is the type of the numbers.
+//! The calls are described in `conditions`, `appending`, `pairs` and `trees`.
 
 ghost use Rattle.recorded_text.specs.Cases.{HasGoodArrays};
 
@@ -14,7 +15,7 @@ use std::alloc::Global;
 // A call on states of numbers.
 #[derive(Clone, Copy)]
 enum NumberQuestion {
-    // A call that exists for each kind of range.
+    // A call that exists for several kinds of ranges.
     OfRange(Question),
     // `state_numbers`: two states with arrays appended, separate and merged, and the numbers of
     // rows read.

@@ -2,9 +2,9 @@
 //! the first state, and B.. to the second. Each state is written as text in the form that `seen`
 //! describes. The parts of a result are separated by ` | `.
 //!
-//! - `state_numbers TYPE MIN MAX A.. | B..`: the numbers of rows read of each of A.., the numbers
-//!   of rows read of each of B.., the first state, the second, and the first with the second merged
-//!   into it. Both states are of the numbers from MIN to MAX
+//! - `state_numbers TYPE MIN MAX A.. | B..`: for each of A.. the number of its rows that were read
+//!   (`CountedState`), the same numbers for B.., the first state, the second, and the first with
+//!   the second merged into it. Both states are of the numbers from MIN to MAX
 //! - `state_empty TYPE A.. | B..`: the same parts, for states of an empty range of numbers
 //! - `state_truths A.. | B..`: the first state, the second, and the first with the second merged
 //!   into it. Both are of truth values
@@ -34,7 +34,8 @@ fn split_at_bar<'a>(words: &'a [&'a str]) -> Result<(&'a [&'a str], &'a [&'a str
 }
 
 /// Reads the names of arrays before and after a `|` from `words`. Returns the text of
-/// `state_numbers` for states of `range`. If `range` is an error, returns it.
+/// `state_numbers` for states of `range`. If `range` is an error, returns it. Otherwise the error
+/// is `Word` if there is no `|`, or else that of `gathered` or `write_seen`.
 pub fn of_range<N: NewStates<State: CountedState>>(
     alloc: Global,
     range: Result<N, Fault>,
@@ -74,7 +75,8 @@ fn write_counted<N: NewStates<State: CountedState>>(
 }
 
 // Creates a state of `range`, and appends the arrays that `names` lists to it. Appends the number
-// of rows read of each to `text`.
+// of rows read of each to `text`. The error is `Case` if no state of the range can be created, or
+// else that of `push_steps`.
 fn counted<N: NewStates<State: CountedState>>(
     alloc: Global,
     text: &mut String,
@@ -109,7 +111,8 @@ fn push_steps<S: CountedState>(
 }
 
 // Appends three states to `text`, each after a bar: `first`, `second`, and `again` with `second`
-// merged into it. `again` must be equal to `first`. If `again` is an error, returns that error.
+// merged into it. `again` is a second state to which the arrays of `first` were appended. If
+// `again` is an error, returns that error.
 fn add_states<S: RecordedState>(
     alloc: Global,
     text: String,
@@ -138,7 +141,8 @@ fn join_made<S: RecordedState>(state: &mut S, made: Result<S, Fault>) -> Result<
 }
 
 // Returns the state of the column `left`, that of the column `right`, and the first with the second
-// merged into it, as text. Each column is the words that `read_state` reads.
+// merged into it, as text. Each column is the words that `read_state` reads. The errors are those
+// of `joined` and `write_seen`.
 fn write_columns<N: NewStates>(
     alloc: Global,
     store: &Store,
@@ -168,7 +172,8 @@ fn joined<N: NewStates>(
 }
 
 /// Reads two columns from `words`, separated by `|`. Returns the state of the first, that of the
-/// second, and the first with the second merged into it, as text.
+/// second, and the first with the second merged into it, as text. The error is `Word` if there is
+/// no `|`, `Case` if the ranges of the columns differ, or else as in `read_state` or `write_seen`.
 pub fn of_columns<N: NewStates>(
     alloc: Global,
     store: &Store,
@@ -181,7 +186,8 @@ pub fn of_columns<N: NewStates>(
 }
 
 /// Reads two columns from `words`, separated by `|`. Returns their two states, the first with the
-/// second merged into it, and the second with the first merged into it, as text.
+/// second merged into it, and the second with the first merged into it, as text. The errors are
+/// those of `of_columns`.
 pub fn either_way<N: NewStates>(
     alloc: Global,
     store: &Store,

@@ -1,4 +1,5 @@
-//! Calls that exist for each kind of range: numbers, truth values, and keys of dictionaries.
+//! Calls that exist for several kinds of ranges: of numbers, of truth values, and of keys of
+//! dictionaries.
 
 ghost use Rattle.recorded_text.specs.Cases.{HasGoodArrays};
 
@@ -9,7 +10,7 @@ use recorded_text::store::Store;
 use recorded_text::words::Words;
 use std::alloc::Global;
 
-/// A call that exists for each kind of range.
+/// A call that exists for several kinds of ranges.
 #[derive(Clone, Copy)]
 pub enum Question {
     /// A test of whether there are states of a range.

@@ -37,7 +37,7 @@ pub fn add_seen<S: RecordedState>(
 }
 
 // Appends the separator `before` and the text of `state` to `text`. If `state` is an error, returns
-// it.
+// it. Other errors are those of `write_seen`.
 fn push_seen<S: RecordedState>(
     alloc: Global,
     text: &mut String,

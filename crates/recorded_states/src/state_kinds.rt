@@ -24,7 +24,7 @@ pub trait RecordedState: RangedUniqueKernel<Array: Drop> + Drop {
     /// is `Case` if it is of another kind.
     fn rows_in(any: &AnyArray) -> Result<&Self::Array, Fault>;
 
-    /// Clones an array.
+    /// Clones an array. The error is `Memory`.
     fn copy_rows(alloc: Global, rows: &Self::Array) -> Result<Self::Array, Fault>;
 
     /// Returns the number of rows of an array.
@@ -45,11 +45,12 @@ pub enum Shown {
     Stored,
 }
 
-/// A state that can count the rows that it reads.
+/// A state that can count the rows that it reads when an array is appended.
 pub trait CountedState: RecordedState {
-    /// Appends `array` to the state, and returns the number of rows read, which is less than the
-    /// length if all values were seen before. The error is `Case` if the state does not accept the
-    /// array, since it has a value outside the range of the state.
+    /// Appends `array` to the state, and returns the number of its rows that were read: all rows if
+    /// one is null, otherwise blocks of 512 rows until all values of the range were seen. The error
+    /// is `Case` if the state does not accept the array, since it has a value outside the range of
+    /// the state.
     fn append_and_count(&mut self, array: &Self::Array) -> Result<u64, Fault>;
 }
 

@@ -42,7 +42,8 @@ enum Leaves<N: NewStates> {
 }
 
 /// Reads a range and a tree from `words`. The leaves are names of arrays, appended to states of the
-/// range. Returns the text of the merged state.
+/// range. Returns the text of the merged state. The error is `Word` if the words do not form one
+/// tree, or else that of `N::read`, `gathered` or `write_seen`.
 pub fn merge_in_range<N: NewStates>(
     alloc: Global,
     store: &Store,
@@ -55,7 +56,8 @@ pub fn merge_in_range<N: NewStates>(
 }
 
 /// Reads a tree from `words`, in which each leaf has a range and the name of an array. Returns the
-/// text of the merged state.
+/// text of the merged state. The error is `Word` if the words do not form one tree, `Case` if the
+/// ranges of the leaves differ, or else that of `N::read`, `gathered` or `write_seen`.
 pub fn merge_leaves<N: NewStates>(
     alloc: Global,
     store: &Store,
@@ -132,7 +134,8 @@ fn take_only<S: RecordedState>(trees: &mut Vec<MergeTree<S>>) -> Result<MergeTre
 }
 
 // Reads trees from all of `words`, with leaves as `leaves` says, and appends them to `trees`. A `+`
-// joins the last two trees read so far.
+// joins the last two trees read so far. The error is `Word` if there are fewer than two, or else
+// that of `read_leaf`, or `Memory`.
 fn read_trees<N: NewStates>(
     alloc: Global,
     trees: &mut Vec<MergeTree<N::State>>,
@@ -152,7 +155,7 @@ fn read_trees<N: NewStates>(
 }
 
 // Reads a `+` from `words`, and joins the last two of `trees`. If the next word is not `+`, reads a
-// leaf, and appends it to `trees`.
+// leaf, and appends it to `trees`. The errors are those of `join_last` and `read_leaf`.
 fn read_part<N: NewStates>(
     alloc: Global,
     trees: &mut Vec<MergeTree<N::State>>,

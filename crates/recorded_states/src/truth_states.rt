@@ -1,4 +1,5 @@
-//! Calls on states of truth values.
+//! Calls on states of truth values. The calls are described in `conditions`, `appending`, `pairs`
+//! and `trees`.
 
 ghost use Rattle.recorded_text.specs.Cases.{HasGoodArrays};
 
