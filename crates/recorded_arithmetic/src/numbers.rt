@@ -58,7 +58,7 @@ pub fn ask(alloc: Global, asked: Asked<'_>, these: Operand<'_>) -> Result<String
     of_numbers!(these.array, array => ask_numbers(alloc, asked, array, these.part))
 }
 
-// Makes a call on the rows `part` of an array of numbers, and returns the result as text.
+// Makes the call `asked` on the rows `part` of an array of numbers, and returns the result as text.
 fn ask_numbers<T: HasPrimitiveArithmeticKernel + WrappingSum + Display + FromStr<Err: Drop>>(
     alloc: Global,
     asked: Asked<'_>,
@@ -103,8 +103,8 @@ pub fn ask_both(
         Int8 Int16 Int32 Int64 UInt8 UInt16 UInt32 UInt64)
 }
 
-// Makes a call on rows of two arrays: the first part is of `left`, the second of `right`. Returns
-// the result as text.
+// Makes the call `asked` on rows of two arrays: the first part is of `left`, the second of `right`.
+// Returns the result as text.
 fn ask_pair<T: HasPrimitiveArithmeticKernel + Display>(
     alloc: Global,
     asked: AskedBoth,

@@ -61,7 +61,8 @@ pub fn beside(alloc: Global, store: &Store, words: &mut Words) -> Result<String,
 }
 
 /// Reads a comparison and two windows from the next words. Returns the text of the bits that say
-/// for each place whether the comparison of the stored numbers holds.
+/// for each place whether the comparison of the stored numbers holds. The error is `Case` if a
+/// window is out of range, or if the arrays do not hold numbers of one type.
 pub fn windows(alloc: Global, store: &Store, words: &mut Words) -> Result<String, Fault>
     requires { HasGoodArrays store.now }
 {

@@ -1,5 +1,5 @@
 //! Calls on single rows of arrays of views, and of kernels that count the pairs of rows looked up
-//! in buffers.
+//! in buffers. If the index of a row is out of range, the error is `Case`.
 //!
 //! - `rows_equal A i B j`, `row_less A i B j`: `TRUTH in N`, where N is the number of pairs looked
 //!   up in buffers
