@@ -1,4 +1,7 @@
-//! Bits as text: `b0:` and a digit for each bit. A row for which no bit is defined has an `x`.
+//! Bits as text: `b0:` and a digit for each bit. Some functions write `x` in place of the bit of a
+//! null row, for which nothing is promised.
+//!
+//! The error of a function is `Memory`, or an error that is given to it in place of bits or a mask.
 
 use crate::fault::Fault;
 use polars_arrays_bits::bit_mask::BitMask;
@@ -13,7 +16,7 @@ fn digit(bit: bool) -> char {
 }
 
 /// Returns whether row `i` has a 0 in the validity. Returns `false` if there is no validity, or if
-/// it has no bit for the row.
+/// the validity has no bit `i`.
 pub fn is_null(validity: Option<&Bitmap>, i: usize) -> bool {
     match validity {
         Some(bits) => bits.get(i) == Some(false),
@@ -21,7 +24,7 @@ pub fn is_null(validity: Option<&Bitmap>, i: usize) -> bool {
     }
 }
 
-/// Returns the text of bits: `b0:` and a digit for each bit. The error is `Memory`.
+/// Returns the text of bits: `b0:` and a digit for each bit.
 pub fn write_bits(alloc: Global, bits: &Bitmap) -> Result<String, Fault> {
     let mut text = String::new(alloc);
     push_bits(&mut text, bits)?;
@@ -34,8 +37,8 @@ pub fn write_made(alloc: Global, bits: Result<Bitmap, ComputeError>) -> Result<S
     write_bits(alloc, &bits?)
 }
 
-/// Returns the text of the bits of a mask, or `none` if the mask has no bits. If `mask` is an
-/// error, returns it as a `Fault`.
+/// Returns the text of the bits of a mask, or `none` for a mask without bits, which says that all
+/// rows are present. If `mask` is an error, returns it as a `Fault`.
 pub fn write_made_mask(
     alloc: Global,
     mask: Result<Mask<'_>, ComputeError>,
@@ -43,7 +46,7 @@ pub fn write_made_mask(
     write_mask(alloc, &mask?)
 }
 
-// Returns the text of the bits of a mask, or `none` if the mask has no bits.
+// Returns the text of the bits of a mask, or `none` for a mask without bits.
 fn write_mask(alloc: Global, mask: &Mask<'_>) -> Result<String, Fault> {
     match mask.bits() {
         Some(bits) => write_lent(alloc, &bits),
@@ -92,8 +95,8 @@ fn digit_or_mask(bit: bool, masked: bool) -> char {
     if masked { 'x' } else { digit(bit) }
 }
 
-/// Returns the text of bits as `write_present` does. If `bits` is an error, returns it as a
-/// `Fault`.
+/// Returns the text of bits, one for each row, with `x` for the rows that are null in `left` or
+/// `right`. If `bits` is an error, returns it as a `Fault`.
 pub fn write_made_present(
     alloc: Global,
     bits: Result<Bitmap, ComputeError>,
@@ -104,7 +107,7 @@ pub fn write_made_present(
 }
 
 /// Returns the text of bits, one for each row: `b0:` and for each row its bit as a digit, or `x` if
-/// the row is masked by `left` or `right`.
+/// the row's bit of the mask `left` or `right` is 0.
 pub fn write_unmasked(
     alloc: Global,
     bits: &Bitmap,

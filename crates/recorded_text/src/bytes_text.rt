@@ -1,4 +1,4 @@
-//! Byte strings as text: `x` and two hexadecimal digits for each byte.
+//! Byte strings as text: `x` and two hexadecimal digits for each byte. All errors are `Memory`.
 
 use crate::fault::Fault;
 use polars_arrays_flat::byte_rows::ByteRows;

@@ -11,7 +11,7 @@ pub enum Fault {
     /// An allocation failed.
     #[error("out of memory")]
     Memory,
-    /// A word is missing or wrong.
+    /// A word is missing, wrong, or left over.
     #[error("a word is missing or is another one than should stand there")]
     Word,
     /// Lists, structs and dictionaries are nested deeper than the reader allows. The number is the
@@ -21,11 +21,11 @@ pub enum Fault {
     /// The parts of an array do not match. The error is that of the array's constructor.
     #[error("no array: {0}")]
     Parts(ArrayError),
-    /// An array of the case does not exist or is not of a kind that the call takes, or the call has
-    /// no result for it.
+    /// The line has no result: no array has a name that the line uses, an array has the name of the
+    /// new one already, or an array, an index or a length does not fit the call.
     #[error("no such array, or no such answer")]
     Case,
-    /// A line could not be read or written.
+    /// Input could not be read, or output could not be written.
     #[error("a line could not be read or written")]
     Line,
 }

@@ -1,8 +1,8 @@
-//! Functions that read arrays of one level.
+//! Functions that read the parts of an array that is not nested from the next words.
 //!
-//! In all of them, the parts share their elements if `kept` is `Shared`, and own them otherwise.
-//! The error is `Word` if a word is missing or wrong, `Parts` if the parts do not match, and
-//! `Memory` if an allocation fails.
+//! In all of them, the parts share their elements with clones if `kept` is `Shared`, and own them
+//! otherwise. The error is `Word` if a word is missing or wrong, `Parts` if the parts do not match,
+//! and `Memory` if an allocation fails.
 
 ghost use Rattle.std.specs.Prelude.{IfOk};
 ghost use Rattle.polars_arrays_nested.specs.GoodParts.{IsGood};
@@ -105,8 +105,8 @@ struct ViewParts {
     validity: Option<Bitmap>,
 }
 
-// Reads the parts of an array of byte strings or texts in views: the views, the buffers, and the
-// validity.
+// Reads the parts of an array of byte strings or texts in views: the count of the views, the views,
+// the count of the buffers, the bytes of each buffer, and the validity.
 fn read_view_parts(alloc: Global, kept: Kept, words: &mut Words) -> Result<ViewParts, Fault> {
     let views = kept.buffer(alloc, read_views(alloc, words)?)?;
     let buffers = read_buffers(alloc, kept, words)?;
@@ -118,7 +118,8 @@ fn read_view_parts(alloc: Global, kept: Kept, words: &mut Words) -> Result<ViewP
     })
 }
 
-/// Reads an array of byte strings in views: the views, the buffers, and the validity.
+/// Reads an array of byte strings in views: the count of the views, the views, the count of the
+/// buffers, the bytes of each buffer, and the validity.
 pub fn read_binary_view(alloc: Global, kept: Kept, words: &mut Words) -> Result<AnyArray, Fault>
     ensures { IfOk result (λ a. IsGood a) }
 {

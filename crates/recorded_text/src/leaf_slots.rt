@@ -1,11 +1,12 @@
 //! The number of leaf slots of arrays, computed from their parts.
 //!
-//! Comparing arrays for equality takes at most one comparison for each leaf slot. An array of one
-//! level has one leaf slot per row, or none if it is a `NullArray`. A list has the leaf slots of
-//! its items, and a struct those of its fields. A present row of a dictionary array has the leaf
-//! slots of its entry, and a masked row has none.
+//! Comparing arrays for equality takes at most one comparison for each leaf slot. An array that is
+//! not nested has one leaf slot per row, or none if it is a `NullArray`. A list has the leaf slots
+//! of its items, and a struct those of its fields. In a dictionary array, a row whose key is not
+//! null has the leaf slots of its entry, and a row whose key is null has none.
 //!
-//! All sums saturate at the greatest `usize`.
+//! All sums saturate at the greatest `usize`. A function also returns the error that `leaf_slots`
+//! returns for the items, columns or entries.
 
 ghost use Rattle.polars_arrays_nested.specs.GoodParts.{IsGood};
 ghost use Rattle.polars_arrays_nested.specs.declared.any_array.AnyArray.{List, FixedSizeList};
@@ -21,8 +22,8 @@ use polars_arrays_nested::list::ListArray;
 use polars_arrays_nested::struct_array::StructArray;
 
 /// Returns the number of leaf slots of the `n` rows of an array from row `from` on. The error is
-/// `Case` if a window of lists between offsets or of keys is out of range, or if the index of an
-/// item exceeds the greatest `usize`.
+/// `Case` if rows of a `ListArray` or `DictionaryArray` are out of range, at any level, or if the
+/// index of an item exceeds the greatest `usize`. Other arrays are not checked.
 #[cycle(slots)]
 pub fn leaf_slots(array: &AnyArray, from: usize, n: usize) -> Result<usize, Fault>
     requires { IsGood array.now }
@@ -79,8 +80,9 @@ fn struct_slots(array: &StructArray, from: usize, n: usize) -> Result<usize, Fau
     Ok(slots)
 }
 
-// Returns the number of leaf slots of the entries of the present rows in `from..from + n`. An entry
-// counts once for each of these rows. The error is `Case` if there are no such rows.
+// Returns the number of leaf slots of the entries to which the keys in `from..from + n` refer, null
+// keys left out. An entry counts once for each key that refers to it. The error is `Case` if there
+// are no such keys.
 #[cycle(slots)]
 fn dictionary_slots(array: &DictionaryArray, from: usize, n: usize) -> Result<usize, Fault>
     requires { IsGood (Dictionary array.now) }

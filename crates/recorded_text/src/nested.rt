@@ -1,9 +1,11 @@
 //! Functions that read arrays of any kind.
 //!
-//! In all of them, `kept` says whether the parts of an array own their elements or share them, and
-//! `depth` is the greatest number of levels of lists, structs and dictionaries. The errors of
-//! reading are `Word` if a word is missing or wrong, `Parts` if the parts make no array, `Depth` if
-//! the array is nested too deeply, and `Memory` if an allocation fails.
+//! In all of them, `kept` says whether the parts of an array own their elements or share them with
+//! clones. `depth` is the greatest number of levels of lists, structs and dictionaries, counted
+//! from the array that is read in `read_array` and `read_whole`, and from the arrays inside it in
+//! other functions. The errors of reading are `Word` if a word is missing or wrong, `Parts` if the
+//! parts make no array, `Depth` if the array is nested too deeply, and `Memory` if an allocation
+//! fails.
 
 ghost use Rattle.std.specs.Prelude.{IfOk};
 ghost use Rattle.std.specs.List.{All};
@@ -44,7 +46,8 @@ pub fn read_any(alloc: Global, words: &mut Words) -> Result<AnyArray, Fault>
 }
 
 // Reads an array: the index of its first row, its number of rows, its kind, and the parts of the
-// kind. The parts may have more rows than the array.
+// kind. The parts may have more rows than the array. The error is `Word` if they do not have all
+// rows of the array.
 #[cycle(read)]
 fn read_array(alloc: Global, kept: Kept, words: &mut Words, depth: usize) -> Result<AnyArray, Fault>
     ensures { IfOk result (λ a. IsGood a) }
@@ -85,8 +88,8 @@ fn read_whole(alloc: Global, kept: Kept, words: &mut Words, depth: usize) -> Res
     }
 }
 
-// Reads the parts of an array of the kind that `kind` names, which is no list, struct or
-// dictionary.
+// Reads the parts of an array of the kind that `kind` names, such as `bool` or `i32`. The error is
+// `Word` if `kind` names no kind, or the kind of a nested array.
 fn read_flat(alloc: Global, kept: Kept, words: &mut Words, kind: &str) -> Result<AnyArray, Fault>
     ensures { IfOk result (λ a. IsGood a) }
 {
@@ -129,8 +132,8 @@ fn read_number_array(
     }
 }
 
-// Reads the parts of an array of lists or structs, or of a dictionary array, as `kind` says. The
-// arrays inside it may be nested up to `depth` levels deep.
+// Reads the parts of an array of the kind `kind`: `list`, `largelist`, `fixedlist`, `struct` or
+// `dict`. The arrays inside it may be nested up to `depth` levels deep.
 #[cycle(read)]
 fn read_holder(
     alloc: Global,

@@ -20,7 +20,7 @@ use std::str::FromStr;
 pub enum Kept {
     /// Each part owns its elements.
     Owned,
-    /// The parts share their elements with clones.
+    /// Each part shares its elements with its clones.
     Shared,
 }
 
@@ -35,7 +35,8 @@ impl Kept {
         }
     }
 
-    /// Returns the buffer, converted to a shared one if `self` is `Shared`. The error is `Memory`.
+    /// Returns the buffer, converted to one that shares its elements with clones if `self` is
+    /// `Shared`. The error is `Memory`.
     pub fn buffer<T: Copy>(self, alloc: Global, buffer: Buffer<T>) -> Result<Buffer<T>, Fault>
         ensures { IfOk result (λ kept. kept.items ≡ buffer.items) }
     {
@@ -45,7 +46,8 @@ impl Kept {
         }
     }
 
-    /// Returns the bits, converted to shared ones if `self` is `Shared`. The error is `Memory`.
+    /// Returns the bits, converted to bits that are shared with clones if `self` is `Shared`. The
+    /// error is `Memory`.
     pub fn bits(self, alloc: Global, bits: Bitmap) -> Result<Bitmap, Fault>
         ensures { IfOk result (λ kept. kept ≡ bits) }
     {
@@ -56,9 +58,9 @@ impl Kept {
     }
 }
 
-/// Reads bits from a word `b<at>:<digits>`, such as `b2:0110`. The digits are 0 or 1. Returns the
-/// bits without the first `at` ones. The error is `Word` if the word has another form or fewer than
-/// `at` digits.
+/// Reads bits from a word `b<at>:<digits>`, such as `b2:0110`. The digits are 0 or 1. Leaves out
+/// the first `at` digits. The error is `Word` if the word has another form or fewer than `at`
+/// digits.
 pub fn read_bits(alloc: Global, word: &str) -> Result<Bitmap, Fault> {
     let Some((at, digits)) = word.split_once(':') else {
         return Err(Fault::Word);
@@ -80,7 +82,7 @@ fn read_bools(alloc: Global, digits: &str) -> Result<Vec<bool>, Fault> {
     Ok(bools)
 }
 
-/// Returns the bits from place `at` on. If `bits` is an error, returns it as a `Fault`. The error
+/// Returns the bits from index `at` on. If `bits` is an error, returns it as a `Fault`. The error
 /// is `Word` if there are fewer than `at` bits.
 fn from_place(bits: Result<Bitmap, ComputeError>, at: usize) -> Result<Bitmap, Fault> {
     let mut bits = bits?;
@@ -109,8 +111,8 @@ fn read_place(word: &str) -> Result<usize, Fault> {
     }
 }
 
-/// Reads a validity from the next word: `None` if it is `-`, otherwise the bits that it gives in
-/// the form of `read_bits`.
+/// Reads a validity from the next word: `None` if the word is `-`, otherwise bits in the form of
+/// `read_bits`, which are shared if `kept` is `Shared`.
 pub fn read_validity(
     alloc: Global,
     kept: Kept,
@@ -123,8 +125,8 @@ pub fn read_validity(
     Ok(Some(read_kept(alloc, kept, word)?))
 }
 
-/// Reads bits from `word` as `read_bits` does, and converts them to shared ones if `kept` is
-/// `Shared`.
+/// Reads bits from `word`, such as `b2:0110`, in the form of `read_bits`. The bits are shared if
+/// `kept` is `Shared`.
 pub fn read_kept(alloc: Global, kept: Kept, word: &str) -> Result<Bitmap, Fault> {
     kept.bits(alloc, read_bits(alloc, word)?)
 }

@@ -6,7 +6,7 @@
 //! a null entry.
 //!
 //! In all functions, the error is `Case` if a stored value to be written does not exist, and
-//! `Memory` if an allocation fails.
+//! `Memory` if an allocation fails. After an error, a part of a row may have been appended.
 
 ghost use Rattle.polars_arrays_nested.specs.GoodParts.{IsGood};
 ghost use Rattle.polars_arrays_nested.specs.declared.any_array.AnyArray.{List, FixedSizeList};
@@ -138,7 +138,8 @@ fn push_list(alloc: Global, text: &mut String, array: &ListArray, i: usize) -> R
     )
 }
 
-// Appends list `i` of an array of lists of one width, in the form of `push_list`.
+// Appends list `i` of an array of lists of one width: its items, separated by commas, between
+// brackets. The list is written even if it is null.
 #[cycle(walk)]
 fn push_fixed_list(
     alloc: Global,

@@ -39,8 +39,9 @@ impl Store {
         self.arrays.clear();
     }
 
-    /// Adds an array under a name. If there is an error, the array is dropped. The error is `Case`
-    /// if the store already has an array with this name, and `Memory` if an allocation fails.
+    /// Adds an array under a name. If there is an error, the array is dropped, and the store is
+    /// unchanged. The error is `Case` if the store already has an array with this name, and
+    /// `Memory` if an allocation fails.
     pub fn add(&mut self, alloc: Global, name: &str, array: AnyArray) -> Result<(), Fault>
         requires arrays { HasGoodArrays self.old }
         requires array { IsGood array }

@@ -30,9 +30,10 @@ pub const FAR_LEVELS: usize = 100_000;
 
 /// Reads a number of levels, a word with the kinds of the levels separated by commas, and an array,
 /// and wraps the array in the levels. The first kind is that of the outermost level. If there are
-/// fewer kinds than levels, they are repeated. The error is `Depth` if there are more than `most`
-/// levels, `Word` if a word is missing or wrong or names an unknown kind, and otherwise as in
-/// `read_any`.
+/// fewer kinds than levels, the kinds are repeated; kinds in excess of the levels are ignored. The
+/// error is `Depth` if there are more than `most` levels, `Word` if a word is missing or wrong, a
+/// level has an unknown kind, or a level would need a number above the greatest `i32`, and
+/// otherwise as in `read_any`.
 pub fn read_wrapped(alloc: Global, words: &mut Words, most: usize) -> Result<AnyArray, Fault>
     ensures { IfOk result (λ a. IsGood a) }
 {
@@ -51,13 +52,15 @@ fn read_levels(words: &mut Words, most: usize) -> Result<usize, Fault> {
     Ok(levels)
 }
 
-// Reads a word, and returns its parts between commas: the kinds of the levels.
+// Reads a word, and returns its parts between commas: the kinds of the levels. Does not check that
+// there are such kinds.
 fn read_kinds<'a>(alloc: Global, words: &mut Words<'a>) -> Result<Vec<&'a str>, Fault> {
     Ok(words.read()?.split(',').collect(alloc)?)
 }
 
 // Wraps an array in `levels` levels. The kinds are repeated from the outermost level on. If `array`
-// is an error, returns that error.
+// is an error, returns that error. The error is `Word` if a level has an unknown kind, or would
+// need a number above the greatest `i32`.
 fn wrap_all(
     alloc: Global,
     levels: usize,
@@ -84,7 +87,7 @@ fn kind_at<'a>(kinds: &[&'a str], level: usize) -> &'a str {
 }
 
 // Wraps an array in one level of the kind `kind`. The error is `Word` if `kind` is no kind of a
-// level.
+// level, or if `array` has too many rows for the offsets or keys, which are of type `i32`.
 fn wrap(alloc: Global, kind: &str, array: Box<AnyArray>) -> Result<AnyArray, Fault>
     requires { IsGood array.value }
     ensures { IfOk result (λ a. IsGood a) }
