@@ -45,8 +45,8 @@ struct Asked<'a> {
     question: &'a str,
 }
 
-/// Splits `line` at ` -> ` into its call and its recorded result. A line without ` -> ` and a
-/// heading have no recorded result.
+/// Splits `line` at ` -> ` into its call and its recorded result. A heading, which begins with `#`,
+/// and a line without ` -> ` have no recorded result.
 fn split_answer(line: &str) -> (&str, Option<&str>) {
     if line.starts_with('#') {
         return (line, None);
@@ -58,8 +58,9 @@ fn split_answer(line: &str) -> (&str, Option<&str>) {
 }
 
 /// Makes the call that each line of `text` names. Depending on `mode`, compares its result with the
-/// recorded one, or prints it. `file` is the name that messages give to the text. If a line has no
-/// result because of an error, prints the line and returns the error.
+/// recorded one, or prints it. Returns how many results are as recorded, and how many differ.
+/// `file` is the name that messages give to the text. If the result of a line is an error, prints
+/// the line and returns the error.
 pub fn check_text<R: Print + Eprint + AllocGlobal>(
     rt: &R,
     file: &str,
@@ -85,7 +86,7 @@ pub fn check_text<R: Print + Eprint + AllocGlobal>(
 }
 
 /// Makes the call of the line `asked`. If an allocation fails, prints that and makes the call once
-/// more: the arrays in `store` must be unchanged.
+/// more. So the result also shows whether the failed call left the arrays in `store` unchanged.
 fn ask<R: Eprint + AllocGlobal>(rt: &R, store: &mut Store, asked: Asked) -> Result<Answer, Fault>
     requires { HasGoodArrays store.old }
     ensures { HasGoodArrays store.new }
@@ -109,9 +110,9 @@ fn tell(rt: &impl Eprint, asked: Asked, fault: &Fault) -> Result<(), Fault> {
     eprintln!(rt; "{file}:{number}: {fault}: {question}").map_err(Fault::from)
 }
 
-/// Compares `answer` with the recorded result, or prints it in mode `Print`. Returns what `compare`
-/// or `print_answer` returns. If `answer` is an error, prints it with the line on standard error,
-/// and returns it.
+/// Compares `answer` with the recorded result, and returns whether they are equal. Returns `None`
+/// if there is neither, or if `mode` is `Print`, in which `answer` is printed instead. If `answer`
+/// is an error, prints it with the line on standard error, and returns it.
 fn check_answer<R: Print + Eprint>(
     rt: &R,
     asked: Asked,
@@ -131,8 +132,8 @@ fn check_answer<R: Print + Eprint>(
     }
 }
 
-/// Prints a heading, or a call and its result. `question` is the line. Returns `None`, since
-/// nothing is compared.
+/// Prints a heading, a call and its result, or a refused array and the reason. Prints nothing for
+/// other lines. `question` is the line. Returns `None`, since nothing is compared.
 fn print_answer(rt: &impl Print, question: &str, answer: &Answer) -> Result<Option<bool>, Fault> {
     match answer {
         Answer::Nothing if question.starts_with('#') => println!(rt; "{question}")?,
@@ -143,8 +144,8 @@ fn print_answer(rt: &impl Print, question: &str, answer: &Answer) -> Result<Opti
     Ok(None)
 }
 
-/// Compares `answer` with the recorded result. Returns whether they are equal, or `None` if there
-/// is neither. If they differ, prints both, with the line `asked`.
+/// Compares `answer` with the recorded result. Returns whether they are equal, or `None` if the
+/// line has neither. If they differ, prints both, with the line `asked`.
 fn compare(
     rt: &impl Print,
     asked: Asked,

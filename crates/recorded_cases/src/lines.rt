@@ -1,15 +1,20 @@
-//! Calls of the line language: results of lines, output of runs, and exit statuses of the program.
+//! Calls of the line language of `polars_tables`: results of lines, output of runs, and exit
+//! statuses of the program.
 //!
-//! - `line TEXT`: the result of the line after `line `, or its fault
+//! - `line TEXT`: the result of the line TEXT, or `refused: WHY`
 //! - `line_bytes BYTES`: the result of the line of these bytes, which may be unprintable
 //! - `line_repeated N PIECE BYTES`: the result of the line of these bytes and then N times the
 //!   bytes of PIECE, which may be very long
 //! - `run BYTES`: the number of lines of this input, the number of refused ones, and the bytes
 //!   written
 //! - `demo`: the bytes that the demo writes
-//! - `command WORD..`: the command of these arguments
-//! - `exit_status lines N refused N`, `exit_status FAULT`: the status after such a run
-//! - `fault_text FAULT`: the message of a run that stopped, by `read`, `write` or `memory`
+//! - `command WORD..`: the name of the command that the program runs for these arguments
+//! - `exit_status lines N refused N`, `exit_status FAULT`: the status after a run that read N lines
+//!   and refused N of them, or after one that stopped by FAULT
+//! - `fault_text FAULT`: the message of a run that stopped by FAULT: `read`, `write` or `memory`
+//!
+//! The error of a function is `Word` if a word is missing or wrong, or `Memory` if an allocation
+//! fails.
 
 use polars_tables_lines::arguments::command;
 use polars_tables_lines::demo::demo;
@@ -60,7 +65,7 @@ fn answer_status(alloc: Global, words: &mut Words) -> Result<String, Fault> {
 }
 
 /// Reads the name of an error of a run from the next word, and returns the message for this error.
-/// The error is `Word` if there is no such name.
+/// The error is `Word` if no error has this name.
 fn answer_fault(alloc: Global, words: &mut Words) -> Result<String, Fault> {
     let fault = run_error_named(words.read()?)?;
     fault_text(&fault).to_string(alloc).map_err(Fault::from)
@@ -121,7 +126,8 @@ fn push_repeated(bytes: &mut Vec<u8>, times: u32, piece: &[u8]) -> Result<(), Al
 }
 
 /// Reads bytes from the next word, and runs the line language with these bytes as input. Returns
-/// the text of the report and of the output.
+/// the text of the report and of the output. If the run fails, returns its error, converted by
+/// `fault_of`.
 fn answer_run(alloc: Global, words: &mut Words) -> Result<String, Fault> {
     let input = read_bytes(alloc, words.read()?)?;
     let mut written = Vec::new(alloc);
@@ -131,7 +137,8 @@ fn answer_run(alloc: Global, words: &mut Words) -> Result<String, Fault> {
     }
 }
 
-/// Returns the text of `report` and of `written`, the output of a run.
+/// Returns the text of `report`, `lines N refused N`, and then the bytes of `written`, the output
+/// of a run.
 fn write_run(alloc: Global, report: Report, written: &[u8]) -> Result<String, Fault> {
     let Report { lines, refused } = report;
     let mut text = format!(in alloc; "lines {lines} refused {refused} ")?;
@@ -139,7 +146,8 @@ fn write_run(alloc: Global, report: Report, written: &[u8]) -> Result<String, Fa
     Ok(text)
 }
 
-/// Runs the demo, and returns the text of the bytes that it writes.
+/// Runs the demo, and returns the text of the bytes that it writes. If the demo fails, returns its
+/// error, converted by `fault_of`.
 fn answer_demo(alloc: Global) -> Result<String, Fault> {
     let mut written = Vec::new(alloc);
     match demo(alloc, &mut written) {
@@ -148,9 +156,9 @@ fn answer_demo(alloc: Global) -> Result<String, Fault> {
     }
 }
 
-/// Converts `fault`, the error of a run whose output `written` is a vector. Returns `Memory` if a
+/// Converts `fault`, the error of a run that wrote `written` into a vector. Returns `Memory` if a
 /// write failed, because the vector could not grow, or if the run failed to allocate before it
-/// wrote anything. Otherwise returns `Case`.
+/// wrote anything. Otherwise returns `Case`, since such a run must not have written anything.
 fn fault_of(fault: RunError, written: &[u8]) -> Fault {
     match fault {
         RunError::Memory if written.is_empty() => Fault::Memory,
@@ -182,7 +190,7 @@ fn command_name(command: Command) -> &'static str {
 }
 
 /// Reads the outcome of a run from the next words: `lines N refused N` for a report, or the name of
-/// an error. The error is `Word` for any other words.
+/// an error: `read`, `write` or `memory`. The error is `Word` for any other words.
 fn read_outcome(words: &mut Words) -> Result<Result<Report, RunError>, Fault> {
     match words.read()? {
         "lines" => read_report(words).map(Ok),

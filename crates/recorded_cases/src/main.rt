@@ -8,22 +8,23 @@
 //! | empty | nothing |
 //! | `# TEXT` | begins a case: the names of the case before are forgotten |
 //! | `NAME = [shared] ARRAY` | names an array, in parts that are shared or owned |
-//! | `NAME = [shared] ARRAY -> refused: WHY` | these parts make no array |
+//! | `NAME = [shared] ARRAY -> refused: WHY` | these parts make no array, or too deep a one |
 //! | `NAME = copy OTHER` | names a clone of an array |
-//! | `NAME = wrapped LEVELS KINDS ARRAY` | names an array nested in LEVELS others |
+//! | `NAME = wrapped LEVELS KINDS ARRAY` | names an array nested in LEVELS others, at most 1,000 |
+//! | `NAME = wrapped_far LEVELS KINDS ARRAY` | the line before, with at most 100,000 LEVELS |
 //! | `CALL OPERAND.. -> RESULT` | the call returns this result |
 //!
 //! Operands are names of arrays, numbers, truth values, names of types, bits `b<at>:<0 and 1..>`,
 //! whose first `<at>` digits are cut off, and bytes `x<hexadecimal digits>`. Results are rows, bits
-//! with `x` where nothing is promised, numbers, `none`, or `refused: WHY`.
+//! with `x` where nothing is promised, numbers, truth values, texts, `none`, or `refused: WHY`.
 //!
 //! The program prints each line whose result differs, with its file, its number and both results,
 //! and the counts of each file. Every result of the file after `--wrong` must differ. A file must
-//! have at least one result. The status is 0 if all is as it must be, and 1 otherwise. A line that
-//! can't be read ends the run with status 1 and is named on standard error.
+//! have at least one result. The status is 0 if all is as it must be, and 1 otherwise. A file or
+//! line that can't be read ends the run with status 1. Such a line is named on standard error.
 //!
-//! `recorded_cases --print FILE..` prints the results of the calls instead of comparing them. Its
-//! lines need no recorded results.
+//! `recorded_cases --print FILE..` prints the results of the calls instead of comparing them. The
+//! lines of the files need no recorded results.
 #![tactic(auto)]
 
 use crate::checking::{Mode, Tally, check_text};
@@ -37,7 +38,8 @@ mod lines;
 mod question;
 
 /// Prints the counts of the file `name`, and returns whether they are right. They are right if
-/// there is at least one result, and none differs, or, if `is_wrong`, all differ.
+/// there is at least one result, and no result differs. If `is_wrong`, all results must differ
+/// instead.
 fn report(rt: &impl Print, name: &str, tally: Tally, is_wrong: bool) -> Result<bool, Fault> {
     let Tally { same, differing } = tally;
     match (is_wrong, same, differing) {
@@ -53,7 +55,8 @@ fn report(rt: &impl Print, name: &str, tally: Tally, is_wrong: bool) -> Result<b
 }
 
 /// Checks the cases in the file `name`, and returns whether the results are as `mode` asks. If
-/// `mode` is `Print`, prints the results, and returns `true`.
+/// `mode` is `Print`, prints the results, and returns `true`. The error is `Line` if the file can't
+/// be read, or the error of a line that has no result.
 fn check_file<R: Files + Print + Eprint + AllocGlobal>(
     rt: &R,
     name: &str,
@@ -68,8 +71,8 @@ fn check_file<R: Files + Print + Eprint + AllocGlobal>(
     }
 }
 
-/// Checks the cases on standard input, and returns whether all results are right. If `mode` is
-/// `Print`, prints the results, and returns `true`.
+/// Checks the cases on standard input, and returns whether there are results and all are right. If
+/// `mode` is `Print`, prints the results, and returns `true`.
 fn check_input<R: Input + Print + Eprint + AllocGlobal>(rt: &R, mode: Mode) -> Result<bool, Fault> {
     let name = "standard input";
     let text = io::read_to_string(rt.alloc(), rt.reader())?;
@@ -81,8 +84,8 @@ fn check_input<R: Input + Print + Eprint + AllocGlobal>(rt: &R, mode: Mode) -> R
 }
 
 /// Checks each file that `words` names, and returns whether all counts are right. In the mode
-/// `Compare`, a file after the word `--wrong` is checked in the mode `CompareWrong`. If no file
-/// follows that word, returns `false`.
+/// `Compare`, the file after a word `--wrong` is checked in the mode `CompareWrong`. If no file
+/// follows this word, returns `false`.
 fn check_files<R: Files + Print + Eprint + AllocGlobal>(
     rt: &R,
     words: &[String],

@@ -1,4 +1,7 @@
 //! A line of a file of cases, and its result.
+//!
+//! The error of a function is `Word` if a word is missing, wrong or left over, `Memory` if an
+//! allocation fails, and `Case` if an array, an index or a length does not fit the line.
 
 ghost use Rattle.std.specs.Prelude.{IfOk};
 ghost use Rattle.polars_arrays_nested.specs.GoodParts.{IsGood};
@@ -19,8 +22,8 @@ use std::fmt::Display;
 pub enum Answer {
     /// No result: the line is empty, a heading, or names an array that was created.
     Nothing,
-    /// The name of an array that its parts do not make, or that is nested too deeply, and the text
-    /// `refused: WHY`.
+    /// The name of an array that was not created, and the text `refused: WHY`: its parts make no
+    /// array, or it is nested too deeply.
     Refused(String, String),
     /// The result of a call.
     Returned(String),
@@ -37,8 +40,9 @@ impl Answer {
     }
 }
 
-/// Returns the result of `line`, which is given without its recorded result. A heading removes all
-/// arrays from `store`, and a line that creates an array adds it to `store`.
+/// Returns the result of `line`, which is given without its recorded result. A heading, which
+/// begins with `#`, removes all arrays from `store`. A line that creates an array adds it to
+/// `store`. After an error, `store` is unchanged.
 pub fn answer_line(alloc: Global, store: &mut Store, line: &str) -> Result<Answer, Fault>
     requires { HasGoodArrays store.old }
     ensures { HasGoodArrays store.new }
@@ -111,7 +115,8 @@ fn answer_operands(
 
 // Reads an array from the next words. After `copy`, this is a clone of the array with the name that
 // follows. After `wrapped` or `wrapped_far`, it is an array nested in others, up to `LEVELS` or
-// `FAR_LEVELS` deep. Otherwise the array is written out.
+// `FAR_LEVELS` deep. Otherwise the array is written out. The error is also `Parts` if the parts
+// make no array, or `Depth` if the array is nested too deeply.
 fn read_array(alloc: Global, store: &Store, words: &mut Words) -> Result<AnyArray, Fault>
     requires { HasGoodArrays store.now }
     ensures { IfOk result (λ array. IsGood array) }
