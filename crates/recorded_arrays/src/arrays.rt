@@ -11,7 +11,8 @@ use recorded_text::row_text::{write_made, write_rows};
 use recorded_text::words::Words;
 use std::alloc::Global;
 
-/// A call that returns the rows of an array, of a clone, or of a slice of a clone.
+/// A call that returns the rows of an array (`Rows`), of a clone (`Copy`), or of a slice of a clone
+/// (`Slice`).
 #[derive(Clone, Copy)]
 pub enum Asked {
     Rows,
@@ -20,7 +21,8 @@ pub enum Asked {
 }
 
 /// Returns as text the rows of `array`, of a clone, or of a slice of a clone, depending on `asked`.
-/// Reads the window of a slice from `words`.
+/// Reads the window of a slice from `words`. Returns the error `Case` if the window is out of
+/// range.
 pub fn ask(
     alloc: Global,
     asked: Asked,

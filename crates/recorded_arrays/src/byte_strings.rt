@@ -34,7 +34,8 @@ fn is_told(comparison: ByteTest, left: &[u8], right: &[u8]) -> bool {
 }
 
 /// Reads `p`, `q`, `n` and `m` from the next four words, and returns the text `true` if the pair
-/// `(p, n)` is less than `(q, m)`, otherwise `false`. `n` and `m` are lengths.
+/// `(p, n)` is less than `(q, m)`, otherwise `false`. `p` and `q` decide, or the lengths `n` and
+/// `m` if `p` equals `q`.
 pub fn less_pair(alloc: Global, words: &mut Words) -> Result<String, Fault> {
     let (p, q) = (words.read_number()?, words.read_number()?);
     let (n, m) = (words.read_number()?, words.read_number()?);

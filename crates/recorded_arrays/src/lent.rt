@@ -41,7 +41,7 @@ pub enum Asked {
 }
 
 /// Returns as text the part or number of `array` that `asked` names. `KeyValue` and `Column` read
-/// an index from the next word.
+/// an index from the next word. Returns the error `Case` if the array has no such part or number.
 pub fn ask(
     alloc: Global,
     asked: Asked,
@@ -122,7 +122,8 @@ fn column(alloc: Global, array: &AnyArray, k: Result<usize, Fault>) -> Result<St
     }
 }
 
-// Returns the offsets of `array` as text. Returns the error `Case` if the array has no offsets.
+// Returns the offsets of `array` as text, and for lists then `large` or `small`. Returns the error
+// `Case` if the array has no offsets.
 fn offsets(alloc: Global, array: &AnyArray) -> Result<String, Fault>
     requires { IsGood array.now }
 {
@@ -195,9 +196,9 @@ fn write_buffers(alloc: Global, array: &BinaryViewArray) -> Result<String, Fault
     Ok(text)
 }
 
-// Returns the keys of a dictionary array as text, including those of masked rows, with 0 in place
-// of a negative key. Then appends the type of the keys and the number of masked keys. Returns the
-// error `Case` for an array of another kind.
+// Returns as text the keys of a dictionary array, the type of the keys, and the number of null
+// keys. A null key is written as it is stored, or as 0 if it is negative. Returns the error `Case`
+// for an array of another kind.
 fn keys(alloc: Global, array: &AnyArray) -> Result<String, Fault> {
     let AnyArray::Dictionary(array) = array else {
         return Err(Fault::Case);
@@ -214,7 +215,7 @@ fn keys(alloc: Global, array: &AnyArray) -> Result<String, Fault> {
 
 // Returns as text the index of the entry to which key `i` of a dictionary array refers. If `i` is
 // an error, returns it. Returns the error `Case` for an array of another kind, or if key `i` is
-// masked or does not exist.
+// null or does not exist.
 fn key_value(alloc: Global, array: &AnyArray, i: Result<usize, Fault>) -> Result<String, Fault>
     requires { IsGood array.now }
 {
@@ -226,7 +227,7 @@ fn key_value(alloc: Global, array: &AnyArray, i: Result<usize, Fault>) -> Result
 }
 
 // Returns as text the index of the entry to which key `i` of `array` refers. Returns the error
-// `Case` if key `i` is masked or does not exist.
+// `Case` if key `i` is null or does not exist.
 fn entry_of(alloc: Global, array: &DictionaryArray, i: usize) -> Result<String, Fault>
     requires { IsGood (Dictionary array.now) }
 {

@@ -1,8 +1,9 @@
 //! Recorded cases of arrays: constructors, slices, clones and sharing, borrowed parts, null rows,
 //! and types.
 //!
-//! A function that reads words may return the error `Word`, and one that allocates may return
-//! `Memory`. Comments on functions say when another error is returned.
+//! A function that reads words returns the error `Word` if a word is missing or wrong, and one that
+//! allocates returns `Memory` if an allocation fails. Comments on functions say when another error
+//! is returned.
 #![tactic(auto)]
 
 ghost use Rattle.polars_arrays_nested.specs.GoodParts.{IsGood};
@@ -32,7 +33,8 @@ use std::alloc::Global;
 
 /// Runs the call named `call` with arguments from `words`, and returns its result as text, or
 /// `None` if this crate has no such call. An argument that is an array is the name of an array in
-/// `store`. The errors are those of the call, besides the ones that each of them has (see above).
+/// `store`. Returns the error `Case` if `store` lacks an array, or if the call has no result for
+/// these arguments.
 pub fn answer(
     alloc: Global,
     call: &str,
@@ -47,8 +49,9 @@ pub fn answer(
     }
 }
 
-// Reads the arguments of `call` from `words`, and returns its result as text. Arrays are named in
-// `words` and found in `store`.
+// Reads the arguments of `call` from `words`, and returns its result as text. An argument that is
+// an array is the name of an array in `store`. Returns the error `Case` if `store` lacks an array,
+// or if the call has no result for these arguments.
 fn ask(alloc: Global, call: Call, store: &Store, words: &mut Words) -> Result<String, Fault>
     requires { HasGoodArrays store.now }
 {
@@ -66,15 +69,17 @@ fn ask(alloc: Global, call: Call, store: &Store, words: &mut Words) -> Result<St
 }
 
 // Reads the name of an array of `store` from the next word, and returns the result of `asked` on
-// this array as text. Reads other arguments from the words after the name. The errors are those of
-// reading the name, such as `Case` if `store` has no array of that name, and those of `ask_one`.
+// this array as text. Reads other arguments from the words after the name. Returns the error `Case`
+// if `store` has no array of that name, or if the call has no result for this array and these
+// arguments.
 fn ask_next(alloc: Global, asked: OfOne, store: &Store, words: &mut Words) -> Result<String, Fault>
     requires { HasGoodArrays store.now }
 {
     ask_one(alloc, asked, store.read(words)?, words)
 }
 
-// Returns the result of `asked` on `array` as text. Reads other arguments from `words`.
+// Returns the result of `asked` on `array` as text. Reads other arguments from `words`. Returns the
+// error `Case` if the call has no result for this array and these arguments.
 fn ask_one(
     alloc: Global,
     asked: OfOne,
@@ -95,8 +100,8 @@ fn ask_one(
 }
 
 // Reads the names of two arrays of `store` from the next two words, and returns the result of
-// `asked` on these arrays as text. Returns the error `Case` if `store` has no array of one of the
-// names.
+// `asked` on these arrays as text. Returns the error `Case` if `store` lacks one of the arrays, or
+// if the call has no result for them.
 fn ask_next_two(
     alloc: Global,
     asked: OfTwo,

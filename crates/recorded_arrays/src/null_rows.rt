@@ -1,7 +1,7 @@
 //! Null rows of an array, one by one and as masks.
 //!
-//! A mask is written as its bits, with 1 for each present row, or as `none` if the mask has no
-//! bits.
+//! A mask is written as its bits, with 1 for each present row. A mask without bits, which says that
+//! all rows are present, is written as `none`.
 
 ghost use Rattle.polars_arrays_nested.specs.GoodParts.{IsGood};
 ghost use Rattle.polars_arrays_nested.specs.declared.any_array.AnyArray.{Dictionary};
@@ -30,7 +30,8 @@ pub enum Asked {
 }
 
 /// Returns the result of `asked` on `array` as text. Reads the index of a row, or a window, from
-/// `words` if the call needs one.
+/// `words` if the call needs one. Returns the error `Case` if the index or window is out of range,
+/// or if `IsNullKey` is called on an array that is no dictionary.
 pub fn ask(
     alloc: Global,
     asked: Asked,

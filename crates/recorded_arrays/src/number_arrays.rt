@@ -1,7 +1,8 @@
 //! Arrays of numbers: their stored values, writing and sharing these, and replacing the validity.
 //!
 //! An array is written as its rows, its stored values, the number of null rows, and `owned` if the
-//! array owns its stored values, otherwise `shared`.
+//! array owns its stored values, otherwise `shared`. For example, `7 null over 7 8 1 null, owned`
+//! has the rows 7 and null, and the stored values 7 and 8.
 
 ghost use Rattle.std.specs.Prelude.{IfOk};
 ghost use Rattle.polars_arrays_flat.specs.Validity.{HasBits};
@@ -36,7 +37,8 @@ pub enum Asked {
 }
 
 /// Returns the result of `asked` on an array of numbers as text. Reads the arguments of the call
-/// from `words`. Returns the error `Case` for an array of another kind.
+/// from `words`. Returns the error `Case` for an array of another kind, or if the call has no
+/// result for these arguments.
 pub fn ask(
     alloc: Global,
     asked: Asked,
@@ -59,6 +61,7 @@ pub fn ask(
 }
 
 // Returns the result of `asked` on `array` as text. Reads the arguments of the call from `words`.
+// Returns the error `Case` if the call has no result for these arguments.
 fn ask_numbers<T: NativeType + Display + FromStr<Err: Drop>>(
     alloc: Global,
     asked: Asked,
@@ -120,8 +123,8 @@ fn push_array<T: NativeType + Display>(
     write!(text, "{} null, {kept}", array.null_count()).map_err(Fault::from)
 }
 
-// Appends each of `values` and a space to `text`. Appends `null` in place of a value that
-// `validity` masks.
+// Appends each of `values` and a space to `text`. Appends `null` in place of a value whose bit of
+// `validity` is 0.
 fn push_values<T: NativeType + Display>(
     text: &mut String,
     values: &[T],
@@ -178,8 +181,8 @@ fn write_validity(alloc: Global, validity: Option<Bitmap>) -> Result<String, Fau
     }
 }
 
-// Reads a validity from the next word, and returns as text a clone of `array` with this validity.
-// Returns the error `Case` if the validity does not have one bit for each row.
+// Reads a validity from the next word, `-` for none, and returns as text a clone of `array` with
+// this validity. Returns the error `Case` if the validity does not have one bit for each row.
 fn with_validity<T: NativeType + Display>(
     alloc: Global,
     array: &PrimitiveArray<T>,
@@ -214,7 +217,7 @@ fn fill_with<T: NativeType + Display + FromStr<Err: Drop>>(
 }
 
 // Reads a number from the next word, and writes it over each stored value of a clone of `array`.
-// Returns the clone as text, or `none` if its stored values are shared.
+// Returns the clone as text, or `none` if the clone does not own its stored values.
 fn get_mut_values<T: NativeType + Display + FromStr<Err: Drop>>(
     alloc: Global,
     array: &PrimitiveArray<T>,

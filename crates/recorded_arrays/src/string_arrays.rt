@@ -19,7 +19,7 @@ use recorded_text::fault::Fault;
 use recorded_text::words::Words;
 use std::alloc::Global;
 
-/// A call on an array of byte strings or of texts.
+/// A call on an array of byte strings or of texts. Each variant has the name of its function below.
 #[derive(Clone, Copy)]
 pub enum Asked {
     Bytes,
@@ -30,7 +30,8 @@ pub enum Asked {
 }
 
 /// Returns the result of `asked` on `array` as text. `Value` reads the index of a row from the next
-/// word, and `OfSize` reads a size.
+/// word, and `OfSize` reads a size. Returns the error `Case` for an array of a kind that the call
+/// does not take, or if the index or size does not fit the array.
 pub fn ask(
     alloc: Global,
     asked: Asked,

@@ -21,7 +21,7 @@ use std::alloc::Global;
 /// rows of the structs, or `refused: ` and the error. The words are the number of rows, the
 /// validity, the number of fields, for each field its name and the name of an array of the same
 /// type, the number of columns, and for each column the name of the array to clone. Arrays are
-/// found in `store`.
+/// found in `store`. Returns the error `Case` if `store` lacks one of the arrays.
 pub fn try_new(alloc: Global, store: &Store, words: &mut Words) -> Result<String, Fault>
     requires { HasGoodArrays store.now }
 {
@@ -49,7 +49,8 @@ fn refusal(alloc: Global, error: &ArrayError) -> Result<String, Fault> {
 }
 
 // Reads a count from the next word, then that many fields. For each field, reads its name and the
-// name of an array of `store` that has the type of the field.
+// name of an array of `store` that has the type of the field. Returns the error `Case` if `store`
+// lacks such an array.
 fn read_fields(alloc: Global, store: &Store, words: &mut Words) -> Result<Vec<Field>, Fault>
     requires { HasGoodArrays store.now }
 {
@@ -64,7 +65,7 @@ fn read_fields(alloc: Global, store: &Store, words: &mut Words) -> Result<Vec<Fi
 }
 
 // Reads a count from the next word, then that many names of arrays of `store`, and returns clones
-// of these arrays.
+// of these arrays. Returns the error `Case` if `store` lacks one of them.
 fn read_columns(alloc: Global, store: &Store, words: &mut Words) -> Result<Vec<AnyArray>, Fault>
     requires { HasGoodArrays store.now }
     ensures { IfOk result (λ columns. All IsGood columns.items) }

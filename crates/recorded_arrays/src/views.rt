@@ -29,7 +29,8 @@ pub enum Asked {
 }
 
 /// Reads a view from the next word, calls the method `asked` on this view, and returns the result
-/// as text. Reads the argument of the method, if it has one, from the words after the view.
+/// as text. Reads the argument of the method, if it has one, from the words after the view. Returns
+/// the error `Case` if the method must not be called on such a view or argument.
 pub fn ask_next(alloc: Global, asked: Asked, words: &mut Words) -> Result<String, Fault> {
     ask(alloc, asked, read(alloc, words)?, words)
 }
@@ -51,7 +52,8 @@ fn read(alloc: Global, words: &mut Words) -> Result<View, Fault> {
 }
 
 // Calls the method `asked` on `view`, and returns the result as text. Reads the argument of the
-// method, another view or buffers, from `words`.
+// method, another view or buffers, from `words`. Returns the error `Case` if the method must not be
+// called on such a view or argument.
 fn ask(alloc: Global, asked: Asked, view: View, words: &mut Words) -> Result<String, Fault> {
     match asked {
         Asked::AsU128 => write_value(alloc, view.as_u128()),
@@ -69,7 +71,8 @@ fn ask(alloc: Global, asked: Asked, view: View, words: &mut Words) -> Result<Str
 }
 
 // Calls the method `asked`, one of `SameHead`, `SameTail` and `InlinedLess`, on `left` and `right`,
-// and returns the result as text. If `right` is an error, returns it.
+// and returns the result as text. If `right` is an error, returns it. For `InlinedLess`, returns
+// the error `Case` if a byte string has more than 12 bytes, or is not padded with zeros.
 fn compare(
     alloc: Global,
     asked: Asked,
@@ -95,7 +98,7 @@ fn inlined(alloc: Global, view: &View) -> Result<String, Fault> {
 
 // Reads a count and that many buffers from `words`, and returns as text the byte string of `view`
 // in these buffers. Returns the error `Case` if the byte string has at most 12 bytes, or if the
-// view is not good.
+// view is not good for these buffers (`View::is_good`).
 fn in_buffer(alloc: Global, view: &View, words: &mut Words) -> Result<String, Fault> {
     let buffers = read_buffers(alloc, Kept::Owned, words)?;
     let text = write_long(alloc, view, &buffers);
@@ -104,7 +107,8 @@ fn in_buffer(alloc: Global, view: &View, words: &mut Words) -> Result<String, Fa
 }
 
 // Returns as text the byte string of `view`, which lies in one of `buffers`. Returns the error
-// `Case` if the byte string has at most 12 bytes, or if the view is not good.
+// `Case` if the byte string has at most 12 bytes, or if the view is not good for these buffers
+// (`View::is_good`).
 fn write_long(alloc: Global, view: &View, buffers: &[Buffer<u8>]) -> Result<String, Fault> {
     if view.len() <= 12 || !view.is_good(buffers) {
         return Err(Fault::Case);
@@ -113,7 +117,7 @@ fn write_long(alloc: Global, view: &View, buffers: &[Buffer<u8>]) -> Result<Stri
 }
 
 // Reads a count and that many buffers from `words`, and returns the text `true` if `view` is good
-// with these buffers, otherwise `false`.
+// for these buffers, otherwise `false`.
 fn is_good(alloc: Global, view: &View, words: &mut Words) -> Result<String, Fault> {
     let buffers = read_buffers(alloc, Kept::Owned, words)?;
     let good = view.is_good(&buffers);
