@@ -3,8 +3,10 @@
 //! - `and X Y`, `or`, `xor`, `xnor`, `and_not`, `or_not`: the operator applied to the bits of two
 //!   bitmaps of equal length at each index
 //! - `not X`: the negated bits
-//! - `merge_eq Q L R`, `merge_ne Q L R`: for each row, whether two sides are equal, or differ. Q
-//!   says which stored values are equal, or differ; L and R say which rows of the sides are present
+//! - `merge_eq Q L R`: for each row, whether two sides are equal, with null equal only to null. Q
+//!   says which stored values are equal; L and R say which rows of the sides are present
+//! - `merge_ne Q L R`: for each row, whether two sides differ. Here Q says which stored values
+//!   differ
 //! - `set_bits X`, `unset_bits X`, `bitmap_len X`: the number of true bits, of false bits, and of
 //!   all
 //! - `num_intersections_with X Y`: the number of places where both bitmaps have a true bit
@@ -13,8 +15,8 @@
 //! - `bitmap_slice X AT N`: the N bits from place AT on
 //! - `bitmap_share X`, `clone_bitmap X`: the bits of a clone of X. With `bitmap_share`, the clone
 //!   is then converted to one whose words are shared with later clones
-//! - `slice_clone X AT N`: the N bits from place AT on, cut out of a clone that shares its words,
-//!   and then all bits of X
+//! - `slice_clone X AT N`: the N bits from place AT on, cut out of a clone that shares the words of
+//!   X, and then all bits of X, which must not have changed
 //! - `meet_shared X P Q N`: the number of places where two windows of X both have a true bit. The
 //!   windows share their words, have N bits, and begin at places P and Q
 //! - `new_zeroed N`, `new_with_value VALUE N`: N bits of one value
@@ -22,7 +24,8 @@
 //! - `from_bools N VALUE..`: the N truth values as bits
 //! - `from_words N WORD.. AT COUNT`: COUNT bits of the N words of 64 bits, from bit AT on
 //! - `from_values X`, `from_wide_values X`: the bits of X, which are read one by one. With
-//!   `from_wide_values`, they are packed like the results of comparisons of wide elements
+//!   `from_wide_values`, they are packed like the results of comparisons of wide elements (see
+//!   `SingleBits`)
 //! - `from_counted X N COST..`: the bits of X, which are read one by one, and the sum of the costs.
 //!   N is the number of bits, and there is a COST for each
 
@@ -62,7 +65,8 @@ pub enum OfOne {
 }
 
 /// A call on one bitmap, on two (`Combined`, `CountBoth`) or three (`Merged`), or one that creates
-/// a bitmap from other operands.
+/// a bitmap from other operands. `Zeroed` is `new_zeroed`, `Filled` is `new_with_value`,
+/// `CountFilled` is `set_bits_filled`, `Bools` is `from_bools`, and `Words` is `from_words`.
 #[derive(Clone, Copy)]
 pub enum Asked {
     One(OfOne),
@@ -76,8 +80,9 @@ pub enum Asked {
     Words,
 }
 
-/// Reads the bitmaps of the call `asked` from the next words, and returns the result of the call.
-/// Other operands are read from the words after the bitmaps.
+/// Reads the bitmaps of the call `asked` from the next words, and returns the result of the call as
+/// text. Other operands are read from the words after the bitmaps. The error is `Case` if lengths
+/// differ, or if a window or the index of `Bit` is out of range.
 pub fn ask(alloc: Global, asked: Asked, words: &mut Words) -> Result<String, Fault> {
     match asked {
         Asked::One(of_one) => ask_next(alloc, of_one, words),
@@ -94,7 +99,8 @@ pub fn ask(alloc: Global, asked: Asked, words: &mut Words) -> Result<String, Fau
 }
 
 // Returns the result of the call `asked` on two or three bitmaps. If `operands` is an error,
-// returns it. The error is `Case` if the lengths differ or there are not as many as the call needs.
+// returns it. The error is `Case` if the lengths differ, or if there are not as many bitmaps as the
+// call needs.
 fn ask_more(
     alloc: Global,
     asked: Asked,
@@ -104,7 +110,7 @@ fn ask_more(
 }
 
 // Returns the result of the call `asked` on two or three bitmaps. The error is `Case` if the
-// lengths differ or there are not as many as the call needs.
+// lengths differ, or if there are not as many bitmaps as the call needs.
 fn ask_all(alloc: Global, asked: Asked, operands: &[Bitmap]) -> Result<String, Fault> {
     match (asked, operands) {
         (Asked::Combined(operator), [x, y]) => write_read(alloc, combine(alloc, operator, x, y)),
@@ -234,6 +240,8 @@ fn ask_next(alloc: Global, asked: OfOne, words: &mut Words) -> Result<String, Fa
 }
 
 // Returns the result of the call `asked` on the bitmap `x`. Other operands are read from `words`.
+// The error is `Case` if a window or the index of `Bit` is out of range, or if there are not as
+// many costs as bits.
 fn ask_one(alloc: Global, asked: OfOne, x: &Bitmap, words: &mut Words) -> Result<String, Fault> {
     match asked {
         OfOne::Not => write_made(alloc, x.not(alloc)),
@@ -259,8 +267,8 @@ fn share(alloc: Global, bits: &Bitmap) -> Result<Bitmap, Fault> {
     bits.clone_bitmap(alloc)?.share(alloc).map_err(Fault::from)
 }
 
-// Creates a bitmap from the bits of another one, which are read one by one; `wide` is as in
-// `SingleBits`.
+// Creates a bitmap from the bits of another one, which are read one by one. `wide` says how they
+// are packed (see `SingleBits`).
 fn one_by_one(alloc: Global, bits: &Bitmap, wide: bool) -> Result<Bitmap, ComputeError> {
     Bitmap::from_values(alloc, &SingleBits { bits, wide })
 }
@@ -310,8 +318,9 @@ fn write_both(
 }
 
 // Reads two places and a number of bits from the next words. Returns the text of the number of
-// indices at which two windows of `x` both have a true bit. The windows begin at the two places,
-// have that many bits, and share their words. The error is `Case` if a window is out of range.
+// indices at which two windows both have a true bit. The windows begin at these places of a clone
+// of `x`, have that many bits, and share the words of the clone. The error is `Case` if a window is
+// out of range.
 fn meet_shared(alloc: Global, x: &Bitmap, words: &mut Words) -> Result<String, Fault> {
     let (p, q) = read_pair(words)?;
     let n = words.read_number()?;

@@ -28,8 +28,8 @@ use std::fmt::Display;
 use std::mem::replace;
 use std::str::FromStr;
 
-// The buffer of the next operation, and in `first` the original of the last clone, if a `clone` was
-// made.
+// The buffer to which the next operation is applied, and in `first` the original of the last clone,
+// or `None` if there was no `clone`.
 #[derive(Drop)]
 struct Clones<T: NativeType> {
     buffer: Buffer<T>,
@@ -64,8 +64,8 @@ const OPERATIONS: [(&str, Operation); 9] = [
 ];
 
 /// Reads a buffer from the next words, applies the operations after it, up to `end`, and returns
-/// their results. Errors are `Word` for wrong or missing words, `Case` for impossible operations,
-/// and `Memory`.
+/// their results. The error is `Word` for wrong or missing words, `Memory`, or `Case` if a place is
+/// out of range, `as_mut_slice` is applied to a shared buffer, or `first` comes before a `clone`.
 pub fn operate<T: NativeType + Display + FromStr<Err: Drop>>(
     alloc: Global,
     words: &mut Words,
@@ -74,8 +74,8 @@ pub fn operate<T: NativeType + Display + FromStr<Err: Drop>>(
     tell(alloc, &mut clones, words)
 }
 
-// Reads a count and that many numbers, and returns a buffer of these numbers that was not cloned
-// yet.
+// Reads a count and that many numbers, and returns a buffer that owns these numbers, before any
+// `clone`.
 fn read_clones<T: NativeType + FromStr<Err: Drop>>(
     alloc: Global,
     words: &mut Words,
@@ -115,7 +115,8 @@ fn apply_all<T: NativeType + Display + FromStr<Err: Drop>>(
 }
 
 // Applies an operation to `clones`, and appends its result, if it has one, to `told`. The operands
-// are read from `words`. If `operation` is an error, returns it.
+// are read from `words`. If `operation` is an error, returns it. The error is `Case` if the
+// operation is not possible (see `operate`).
 fn apply<T: NativeType + Display + FromStr<Err: Drop>>(
     alloc: Global,
     clones: &mut Clones<T>,
@@ -188,8 +189,8 @@ fn write_at<T: NativeType>(elements: &mut [T], i: usize, element: T) -> Result<(
 }
 
 // If the buffer owns its elements, sets one of them and returns `some`; otherwise returns `none`.
-// `written` has the index and the new element; if it is an error, returns it. The error is `Case`
-// if the buffer owns its elements and the index is out of range.
+// `written` has the index and the new element. If `written` is an error, returns it. The error is
+// `Case` if the buffer owns its elements and the index is out of range.
 fn write_if_owned<T: NativeType>(
     buffer: &mut Buffer<T>,
     written: Result<(usize, T), Fault>,
@@ -201,9 +202,9 @@ fn write_if_owned<T: NativeType>(
     }
 }
 
-// Sets an element of `buffer`. `written` has the index and the new element; if it is an error,
-// returns it. The error is `Case` if the buffer does not own its elements or the index is out of
-// range.
+// Sets an element of `buffer`. `written` has the index and the new element. If `written` is an
+// error, returns it. The error is `Case` if the buffer does not own its elements, or if the index
+// is out of range.
 fn write_owned<T: NativeType>(
     buffer: &mut Buffer<T>,
     written: Result<(usize, T), Fault>,

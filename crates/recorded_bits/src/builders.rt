@@ -7,7 +7,8 @@
 //! - `push VALUE`: no result; pushes the bit VALUE, which is `true` or `false`
 //! - `fill N VALUE`: no result; pushes N bits that are all VALUE
 //! - `values X`, `wide_values X`: no result; pushes the bits of X, which are read one by one. With
-//!   `wide_values`, they are packed like the results of comparisons of wide elements
+//!   `wide_values`, they are packed like the results of comparisons of wide elements (see
+//!   `SingleBits`)
 //! - `len`: the number of bits
 //! - `room N`: whether N more bits fit
 //! - `fallen`: the decrease of the room since the builder was created
@@ -47,8 +48,9 @@ const OPERATIONS: [(&str, Operation); 7] = [
 ];
 
 /// Reads the capacity of a builder from the next word, applies the operations after it, up to
-/// `freeze`, and returns their results. The last result is the text of all bits. Errors are `Word`
-/// for wrong or missing words, `Case` if bits don't fit, and `Memory`.
+/// `freeze`, and returns their results. The last result is the text of all bits. The error is
+/// `Word` for wrong or missing words, `Case` if there is no room for the bits of an operation, or
+/// `Memory`.
 pub fn operate(alloc: Global, words: &mut Words) -> Result<String, Fault> {
     let mut builder = read_builder(alloc, words)?;
     let told = tell(alloc, &mut builder, words);
@@ -95,7 +97,7 @@ fn apply_all(
 
 // Applies an operation to `builder`, and appends its result, if it has one, to `told`. `room` is
 // the room of the builder before the first operation. The operands are read from `words`. If
-// `operation` is an error, returns it.
+// `operation` is an error, returns it. The error is `Case` if there is not enough room for bits.
 fn apply(
     alloc: Global,
     builder: &mut BitmapBuilder,
@@ -138,8 +140,9 @@ fn fill_read(builder: &mut BitmapBuilder, words: &mut Words) -> Result<(), Fault
     fill(builder, n, read_truth(words)?)
 }
 
-// Pushes the bits in `bits`, which the builder reads one by one; `wide` is as in `SingleBits`. If
-// `bits` is an error, returns it. The error is `Case` if there is not enough room.
+// Pushes the bits in `bits`, which the builder reads one by one. `wide` says how they are packed
+// (see `SingleBits`). If `bits` is an error, returns it. The error is `Case` if there is not enough
+// room.
 fn push_read(
     builder: &mut BitmapBuilder,
     bits: Result<Bitmap, Fault>,
@@ -157,7 +160,8 @@ pub fn push(builder: &mut BitmapBuilder, value: bool) -> Result<(), Fault> {
     Ok(())
 }
 
-/// Pushes `n` bits that are all `value`. The error is `Case` if there is not enough room.
+/// Pushes `n` bits that are all `value`. The error is `Case` if there is not enough room, and then
+/// no bit is pushed.
 pub fn fill(builder: &mut BitmapBuilder, n: usize, value: bool) -> Result<(), Fault> {
     if builder.room() < n {
         return Err(Fault::Case);
@@ -166,8 +170,8 @@ pub fn fill(builder: &mut BitmapBuilder, n: usize, value: bool) -> Result<(), Fa
     Ok(())
 }
 
-/// Pushes the bits of a bitmap, which the builder reads one by one; `wide` is as in `SingleBits`.
-/// The error is `Case` if there is not enough room.
+/// Pushes the bits of a bitmap, which the builder reads one by one. `wide` says how they are packed
+/// (see `SingleBits`). The error is `Case` if there is not enough room, and then no bit is pushed.
 pub fn push_all(builder: &mut BitmapBuilder, bits: &Bitmap, wide: bool) -> Result<(), Fault> {
     if builder.room() < bits.len() {
         return Err(Fault::Case);

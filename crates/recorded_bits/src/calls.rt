@@ -1,4 +1,4 @@
-//! The calls of this crate with their names.
+//! The calls of this crate with their names. The modules that make the calls describe them.
 
 use crate::comparisons::Compared;
 use crate::numbers::{OfOffset, OfType};
@@ -14,9 +14,9 @@ pub enum Call {
     Offset(OfOffset),
     /// The index of the entry to which a key refers.
     Key,
-    /// The value of a counter made by `new`, after numbers were added.
+    /// The value of a counter made by `Steps::new`, after numbers were added.
     Steps,
-    /// The value of a counter made by `default`, after numbers were added.
+    /// The value of a counter made by `Steps::default`, after numbers were added.
     DefaultSteps,
     /// A call on bitmaps.
     Bits(bits::Asked),

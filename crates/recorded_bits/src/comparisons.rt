@@ -62,14 +62,16 @@ const TESTS: [(&str, Test); 6] = [
 ];
 
 /// Reads the name of a comparison and a number type from the next words, and returns the result of
-/// the call `compared` for these. The operands are read from the words after them.
+/// the call `compared` for these. The operands are read from the words after them. The error is
+/// `Case` if the lengths of two lists differ, or if a window is out of range.
 pub fn by_name(alloc: Global, compared: Compared, words: &mut Words) -> Result<String, Fault> {
     let test = find_word(&TESTS, words.read()?)?;
     ask_next(alloc, Asked::Compared(compared, test), words)
 }
 
 /// Returns the result of the call `compared` for the comparison `test` of numbers of type `T`. The
-/// operands are read from `words`.
+/// operands are read from `words`. The error is `Case` if the lengths of two lists differ, or if a
+/// window is out of range.
 pub fn by_test<T: NativeType + FromStr<Err: Drop>>(
     alloc: Global,
     compared: Compared,
@@ -189,8 +191,8 @@ fn write_windows<T: NativeType, E: Comparison<T, T>>(
     write_made(alloc, compare_pairs(alloc, comparison, these, those))
 }
 
-// Reads a list and one more number, and returns the text of a bit for each number of the list,
-// which says whether `comparison` holds of it and the last number.
+// Reads a list and then a number, and returns the text of a bit for each element of the list. The
+// bit says whether `comparison` holds of the element and the number.
 fn constant<T: NativeType + FromStr<Err: Drop>, E: Comparison<T, T>>(
     alloc: Global,
     comparison: &E,

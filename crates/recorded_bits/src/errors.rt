@@ -1,10 +1,10 @@
 //! Calls that return the texts of errors.
 //!
 //! - `compute_error memory`, `compute_error unsupported`, `compute_error key KEY LEN`: the text of
-//!   a computation error. In the last one, KEY is a key of a dictionary with LEN entries
+//!   a computation error. In the last call, KEY is a key of a dictionary with LEN entries
 //! - `array_error length`, `array_error offsets ROW`, `array_error field AT`,
 //!   `array_error view ROW`, `array_error not_utf8 ROW`, `array_error key ROW`: the text of an
-//!   array error. AT is the number of a field
+//!   array error. ROW and AT are the indices of a row and of a field
 
 use crate::bits::read_pair;
 use polars_arrays_bits::error::{ArrayError, ComputeError};
@@ -45,7 +45,7 @@ fn read_key_error(words: &mut Words) -> Result<ComputeError, Fault> {
     Ok(ComputeError::KeyOutOfRange { key, len })
 }
 
-// Reads an array error: `length`, or another name with the number of a row or field.
+// Reads an array error: `length`, or another name and then the index of a row or field.
 fn read_array_error(words: &mut Words) -> Result<ArrayError, Fault> {
     match words.read()? {
         "length" => Ok(ArrayError::Length),
@@ -53,8 +53,8 @@ fn read_array_error(words: &mut Words) -> Result<ArrayError, Fault> {
     }
 }
 
-// Returns the array error with the given name, at row or field `at`. The error is `Word` if no
-// error with a row or field has this name.
+// Returns the array error with the given name, at the row or field with the index `at`. The error
+// is `Word` if no error with a row or field has this name.
 fn error_at(name: &str, at: usize) -> Result<ArrayError, Fault> {
     match name {
         "offsets" => Ok(ArrayError::Offsets { row: at }),

@@ -1,5 +1,9 @@
 //! Recorded cases of numbers, bitmaps, masks, builders, buffers and comparisons of slices. A case
 //! is a line of text with the name of a call and the operands of the call.
+//!
+//! A function that reads words returns the error `Word` if a word is missing or wrong, and one that
+//! allocates returns `Memory` if an allocation fails. Comments on functions say when another error
+//! is returned.
 #![tactic(auto)]
 
 mod answer_text;
@@ -25,8 +29,9 @@ use recorded_text::names::find;
 use recorded_text::words::Words;
 use std::alloc::Global;
 
-/// Returns the result of the call named `call`, or `None` if this crate has no call with that name.
-/// The operands of the call are read from `words`.
+/// Returns the result of the call named `call` as text, or `None` if this crate has no call with
+/// that name. The operands of the call are read from `words`. The error is `Case` if the call has
+/// no result for these operands.
 pub fn answer(alloc: Global, call: &str, words: &mut Words) -> Result<Option<String>, Fault> {
     match find(&CALLS, call) {
         Some(call) => ask(alloc, call, words).map(Some),
@@ -34,7 +39,8 @@ pub fn answer(alloc: Global, call: &str, words: &mut Words) -> Result<Option<Str
     }
 }
 
-// Returns the result of `call`. The operands of the call are read from `words`.
+// Returns the result of `call` as text. The operands of the call are read from `words`. The error
+// is `Case` if the call has no result for these operands.
 fn ask(alloc: Global, call: Call, words: &mut Words) -> Result<String, Fault> {
     match call {
         Call::NumberType(asked) => ask_next(alloc, Asked::Type(asked), words),

@@ -4,15 +4,17 @@
 //! - `mask_and MASK MASK`, `mask_or`, `mask_xor`, `mask_xnor`, `mask_and_not`, `mask_or_not`: the
 //!   operator applied to the bits of two windows of equal length at each index
 //! - `mask_not MASK`: the negated bits
-//! - `mask_merge_eq MASK MASK MASK`, `mask_merge_ne MASK MASK MASK`: for each row, whether two
-//!   sides are equal, or differ. The first mask says which stored values are equal, or differ; the
-//!   others say which rows of the left and the right side are present
+//! - `mask_merge_eq MASK MASK MASK`: for each row, whether two sides are equal, with null equal
+//!   only to null. The first mask says which stored values are equal; the others say which rows of
+//!   the left and the right side are present
+//! - `mask_merge_ne MASK MASK MASK`: for each row, whether two sides differ. Here the first mask
+//!   says which stored values differ
 //! - `to_bitmap MASK`: the bits
 //! - `window MASK AT N`: the N bits from place AT on
 //! - `mask_len MASK`, `mask_unset_bits MASK`: the number of bits, and of false bits
 //! - `mask_get MASK I`: bit I
-//! - `few_bits MASK AT N`: the N bits from place AT on, as a number whose lowest bit is the first
-//!   one
+//! - `few_bits MASK AT N`: the N bits from place AT on, at most 64, as a number whose lowest bit is
+//!   the first one
 //! - `all_set MASK AT N`: whether the N bits from place AT on are all true
 //! - `all_in_blocks MASK WIDTH N`: for each of the first N blocks of WIDTH bits, whether all bits
 //!   of the block are true
@@ -52,8 +54,9 @@ pub enum Asked {
     Merged(Merge),
 }
 
-/// Reads the windows of the call `asked` from the next words, and returns the result of the call.
-/// Other operands are read from the words after the windows.
+/// Reads the windows of the call `asked` from the next words, and returns the result of the call as
+/// text. Other operands are read from the words after the windows. The error is `Case` if an index
+/// or a window is out of range, if lengths differ, or if `FewBits` is called for more than 64 bits.
 pub fn ask(alloc: Global, asked: Asked, words: &mut Words) -> Result<String, Fault> {
     match asked {
         Asked::One(of_one) => ask_next(alloc, of_one, words),
@@ -62,7 +65,8 @@ pub fn ask(alloc: Global, asked: Asked, words: &mut Words) -> Result<String, Fau
     }
 }
 
-// Reads `count` windows from the next words, each of them from three words.
+// Reads `count` windows from the next words, each of them from three words. The error is `Case` if
+// a window is out of range.
 fn read_windows(alloc: Global, words: &mut Words, count: usize) -> Result<Vec<Window>, Fault> {
     let mut windows = Vec::new(alloc);
     for _ in 0..count {
@@ -72,7 +76,8 @@ fn read_windows(alloc: Global, words: &mut Words, count: usize) -> Result<Vec<Wi
 }
 
 // Returns the result of the call `asked` on two or three windows. If `operands` is an error,
-// returns it. The error is `Case` if the lengths differ or there are not as many as the call needs.
+// returns it. The error is `Case` if the lengths differ, or if there are not as many windows as the
+// call needs.
 fn ask_more(
     alloc: Global,
     asked: Asked,
@@ -82,7 +87,7 @@ fn ask_more(
 }
 
 // Returns the result of the call `asked` on two or three windows. The error is `Case` if the
-// lengths differ or there are not as many as the call needs.
+// lengths differ, or if there are not as many windows as the call needs.
 fn ask_all(alloc: Global, asked: Asked, operands: &[Window]) -> Result<String, Fault> {
     match (asked, operands) {
         (Asked::Combined(operator), [x, y]) => {
@@ -204,14 +209,16 @@ pub fn fold_blocks(
 }
 
 // Reads a window from the next words, and returns the result of the call `asked` on it. Other
-// operands are read from the words after the window.
+// operands are read from the words after the window. The error is `Case` if the window or an
+// operand is out of range, or if `FewBits` is called for more than 64 bits.
 fn ask_next(alloc: Global, asked: OfOne, words: &mut Words) -> Result<String, Fault> {
     let window = Window::read(alloc, words)?;
     ask_one(alloc, asked, &window.mask(), words)
 }
 
 // Returns the result of the call `asked` on the window `mask`. Other operands are read from
-// `words`.
+// `words`. The error is `Case` if they are out of range, or if `FewBits` is called for more than 64
+// bits.
 fn ask_one(
     alloc: Global,
     asked: OfOne,
@@ -231,7 +238,7 @@ fn ask_one(
 // Returns the result of the call `asked` on the window `mask`. `numbers` has a place and a number
 // of bits, or for `Blocks` the width and the number of blocks. If `numbers` is an error, returns
 // it. The error is `Case` if these bits are out of range, or if `FewBits` is called for more than
-// 64.
+// 64 bits.
 fn ask_part(
     alloc: Global,
     asked: OfOne,

@@ -11,7 +11,7 @@
 //! - `and X`: no result; sets each bit to `bit & x`
 //! - `and_values X`, `and_wide_values X`: no result; sets each bit to `bit & x`. The bits of X are
 //!   read one by one. With `and_wide_values`, they are packed like the results of comparisons of
-//!   wide elements
+//!   wide elements (see `SingleBits`)
 //! - `and_mask X`, `or_not_mask X`: no result; sets each bit to `bit & x` or to `bit | !x`. X is
 //!   read as a mask
 //! - `merge_eq L R`, `merge_ne L R`: no result. Before, the bits say which rows of two sides have
@@ -93,8 +93,8 @@ const OPERATIONS: [(&str, Operation); 12] = [
 ];
 
 /// Reads bits from the next words, applies the operations after them, up to `freeze`, and returns
-/// their results. The last result is the text of all bits. Errors are `Word` for wrong or missing
-/// words, `Case` for wrong indices and lengths, and `Memory`.
+/// their results. The last result is the text of all bits. The error is `Word` for wrong or missing
+/// words, `Case` if an index is out of range or a length differs, or `Memory`.
 pub fn operate(alloc: Global, words: &mut Words) -> Result<String, Fault> {
     let mut bits = begin(alloc, words)?;
     let told = tell(alloc, &mut bits, words);
@@ -127,7 +127,8 @@ fn apply_all(
 }
 
 // Applies an operation to `bits`, and appends its result, if it has one, to `told`. The operands
-// are read from `words`. If `operation` is an error, returns it.
+// are read from `words`. If `operation` is an error, returns it. The error is `Case` if an index is
+// out of range or a length differs.
 fn apply(
     alloc: Global,
     bits: &mut MutableBitmap,
@@ -222,8 +223,9 @@ fn join_with(bits: &mut MutableBitmap, join: Join, other: &Bitmap) -> Result<(),
     Ok(())
 }
 
-// Merges `bits` with the masks of two sides, which are the two bitmaps in `present`. If `present`
-// is an error, returns it. The error is `Case` if the lengths differ.
+// Merges `bits` with the masks of two sides, as `merge` says. The masks are the two bitmaps in
+// `present`. If `present` is an error, returns it. The error is `Case` if there are not two masks,
+// or if the lengths differ.
 fn merge_read(
     bits: &mut MutableBitmap,
     merge: Merge,
@@ -232,8 +234,8 @@ fn merge_read(
     merge_all(bits, merge, &present?)
 }
 
-// Merges `bits` with the masks of two sides, which are the two bitmaps in `present`. The error is
-// `Case` if there are not two of them or the lengths differ.
+// Merges `bits` with the masks of two sides, as `merge` says. The masks are the two bitmaps in
+// `present`. The error is `Case` if there are not two masks, or if the lengths differ.
 fn merge_all(bits: &mut MutableBitmap, merge: Merge, present: &[Bitmap]) -> Result<(), Fault> {
     match present {
         [left, right] => merge_masks(
@@ -246,9 +248,9 @@ fn merge_all(bits: &mut MutableBitmap, merge: Merge, present: &[Bitmap]) -> Resu
     }
 }
 
-// Merges `bits`, which say which rows have equal (or unequal) stored values, with the masks of both
-// sides. Afterwards, the bits say which rows are equal (or unequal). The error is `Case` if the
-// lengths differ.
+// Merges `bits` with the masks of both sides. For `Merge::Eq`, replaces bits that say which rows
+// have equal stored values by bits that say which rows are equal. For `Merge::Ne`, both say this of
+// unequal values and rows. The error is `Case` if the lengths differ.
 fn merge_masks(
     bits: &mut MutableBitmap,
     merge: Merge,

@@ -51,14 +51,15 @@ pub fn read_type(words: &mut Words) -> Result<NumberType, Fault> {
 pub enum Asked {
     /// A call on the type itself, without operands.
     Type(OfType),
-    /// A call of the given kind, with the given comparison of two numbers.
+    /// A call of `comparisons`, with the comparison of two numbers that it makes.
     Compared(Compared, Test),
     /// Operations on a buffer of numbers.
     Buffer,
 }
 
 /// Reads a number type from the next word, and returns the result of the call `asked` for this
-/// type. The operands of the call are read from the words after it.
+/// type. The operands of the call are read from the words after the type. The error is `Case` if
+/// the call has no result for them.
 pub fn ask_next(alloc: Global, asked: Asked, words: &mut Words) -> Result<String, Fault> {
     match read_type(words)? {
         NumberType::Int8 => ask::<i8>(alloc, asked, words),

@@ -44,7 +44,8 @@ pub enum OfOffset {
 }
 
 /// Reads a type of offsets and an offset from the next words, and returns the result of the call
-/// `asked` on the offset. The error is `Word` if the type is neither `i32` nor `i64`.
+/// `asked` on the offset. The error is `Word` if the type is another one than `i32` and `i64`, and
+/// `Case` if `Known` is called on a negative offset.
 pub fn of_offset(alloc: Global, asked: OfOffset, words: &mut Words) -> Result<String, Fault> {
     match read_type(words)? {
         NumberType::Int32 => ask_offset::<i32>(alloc, asked, words),
@@ -81,7 +82,8 @@ pub fn ask_type<T: NativeType + Display>(alloc: Global, asked: OfType) -> Result
     }
 }
 
-// Reads an offset from the next word, and returns the result of the call `asked` on it.
+// Reads an offset from the next word, and returns the result of the call `asked` on it. The error
+// is `Case` if `Known` is called on a negative offset.
 fn ask_offset<O: Offset + FromStr<Err: Drop>>(
     alloc: Global,
     asked: OfOffset,

@@ -1,17 +1,20 @@
-//! Calls that are made with operands at many places in words, and the sum over their results.
+//! Calls that are made with operands at many places in words, and the sum over their results. The
+//! sum is a hash (`Sum`), so one number tests many results.
 //!
 //! - `sweep CALL N`: the sum over the results of CALL on bitmaps or masks of N bits
-//! - `sweep all_set N`: the sum over the results of `all_set` for the N bits of a fixed pattern
-//!   from each place on
+//! - `sweep all_set N`: the sum over the results of `all_set` for the N bits of `pattern` from each
+//!   place on
 //! - `sweep extend_values N`, `sweep extend_wide_values N`: the sum over the bitmaps that a builder
-//!   makes if the first N bits of the pattern are pushed at each place
+//!   makes, one for each place: true bits up to the place, the first N bits of `pattern`, and a
+//!   false bit
 //! - `sweep_blocks WIDTH N`: the sum over the results of `all_in_blocks` for N blocks of WIDTH bits
-//!   of the pattern from each place on
+//!   of `pattern` from each place on
 //!
-//! A place is a bit from 0 to 65. `sweep CALL N` makes the call once for each pair of places. The
-//! operands are the first N bits of up to three lists: the first list begins at the first place of
-//! the pair, the second list at the second place, and the third list at a place computed from both.
-//! The sum adds each bit of a result, in order, or a count as one number.
+//! A place is the index of a bit, from 0 to 65. `sweep CALL N` makes the call once for each pair of
+//! places. The operands are the first N bits of up to three lists of fixed bits (`bit_at`): the
+//! first list begins at the first place of the pair, the second list at the second place, and the
+//! third list at a place computed from both. The bits of a result are added to the sum in order,
+//! and a count is added as one number.
 
 use crate::bits::read_pair;
 use crate::builders::{fill, push, push_all};
@@ -26,7 +29,8 @@ use recorded_text::names::find_word;
 use recorded_text::words::Words;
 use std::alloc::Global;
 
-/// The number of places at which a list may begin: the 64 bits of one word, and two of the next.
+/// The number of places at which a list may begin: the 64 bits of one word, and two bits of the
+/// next.
 const PLACES: usize = 66;
 
 /// Reads the name of a call and a number of bits from the next words, and returns the text of the
@@ -100,8 +104,9 @@ impl Sum {
     }
 }
 
-/// Returns bit `i` of the list of bits with the number `list`. The list has no end, and no pattern
-/// that repeats with the length of words.
+/// Returns bit `i` of the list of bits with the number `list`. The lists are endless, and always
+/// have the same bits, of which about a third are true. They do not repeat after 64 bits, the
+/// length of a word.
 fn bit_at(i: usize, list: usize) -> bool {
     let mixed = i
         .wrapping_mul(2654435761)
@@ -118,8 +123,8 @@ struct Places {
     cut: Vec<Bitmap>,
 }
 
-/// Creates a bitmap with the first `n` bits of a list from bit `at` on, and all other bits set.
-/// `list` is the number of the list.
+/// Creates a bitmap with `at` true bits, the first `n` bits of a list, and 70 true bits. `list` is
+/// the number of the list.
 fn surrounded(alloc: Global, list: usize, at: usize, n: usize) -> Result<Bitmap, Fault> {
     let capacity = at.saturating_add(n).saturating_add(70);
     let mut builder = BitmapBuilder::with_capacity(alloc, capacity)?;
@@ -155,8 +160,8 @@ fn surrounded_each(alloc: Global, list: usize, n: usize) -> Result<Vec<Bitmap>, 
     Ok(around)
 }
 
-/// Cuts the `n` bits of a list out of each bitmap in `around`, where they begin at the bitmap's own
-/// index in `around`.
+/// Cuts `n` bits out of each bitmap in `around`, from bit `at` on for the bitmap at index `at`. The
+/// error is `Case` if a bitmap does not have these bits.
 fn cut_each(alloc: Global, around: &[Bitmap], n: usize) -> Result<Vec<Bitmap>, Fault> {
     let mut windows = Vec::new(alloc);
     for (at, bits) in around.iter().enumerate() {
@@ -291,7 +296,7 @@ const PAIRED: [(&str, Asked); 22] = [
 ];
 
 /// Returns the sum over the results of the call `asked` on lists of `n` bits at all pairs of
-/// places. If `asked` is an error, returns it.
+/// places. If `asked` is an error, returns it, unless an allocation fails before.
 fn sweep_pairs(alloc: Global, asked: Result<Asked, Fault>, n: usize) -> Result<Sum, Fault> {
     let lists = Lists::new(alloc, n)?;
     sweep_lists(alloc, asked, &lists)
@@ -323,8 +328,8 @@ fn sweep_second(
     Ok(())
 }
 
-/// Adds the result of the call `asked` on `lists` to `sum`, with the first two lists at places `p`
-/// and `q`.
+/// Adds the result of the call `asked` on `lists` to `sum`, with the first list at place `p` and
+/// the second list at place `q`.
 fn add_answer(
     alloc: Global,
     asked: Asked,
@@ -344,8 +349,8 @@ fn add_answer(
     }
 }
 
-/// Adds the result of the call `asked` on the masks of `lists` to `sum`, with the first two lists
-/// at places `p` and `q`.
+/// Adds the result of the call `asked` on the masks of `lists` to `sum`, with the first list at
+/// place `p` and the second list at place `q`.
 fn add_mask_answer(
     alloc: Global,
     asked: OfMasks,
@@ -397,7 +402,7 @@ enum AtPlace {
 }
 
 /// Returns the sum over the results of the call `asked` on `values` at each place. If `values` is
-/// an error, returns it.
+/// an error, returns it. The error is `Case` if the call needs values that do not exist.
 fn sweep_values(
     alloc: Global,
     asked: AtPlace,
@@ -415,7 +420,8 @@ fn sweep_places(alloc: Global, asked: AtPlace, values: &Bitmap) -> Result<Sum, F
     Ok(sum)
 }
 
-/// Adds the result of the call `asked` on `values` at place `at` to `sum`.
+/// Adds the result of the call `asked` on `values` at place `at` to `sum`. The error is `Case` if
+/// the call needs values that do not exist.
 fn add_at(
     alloc: Global,
     asked: AtPlace,
@@ -446,8 +452,8 @@ fn blocks(
     masks::fold_blocks(alloc, &mask, width, n)
 }
 
-/// Returns a bitmap of `at` true bits, the bits of `values`, and a false bit. `wide` is as in
-/// `SingleBits`.
+/// Returns a bitmap of `at` true bits, the bits of `values`, and a false bit. `wide` says how the
+/// bits of `values` are packed (see `SingleBits`).
 fn appended(alloc: Global, at: usize, values: &Bitmap, wide: bool) -> Result<Bitmap, Fault> {
     let capacity = at.saturating_add(values.len()).saturating_add(1);
     let mut builder = BitmapBuilder::with_capacity(alloc, capacity)?;
@@ -455,8 +461,8 @@ fn appended(alloc: Global, at: usize, values: &Bitmap, wide: bool) -> Result<Bit
     Ok(builder.freeze())
 }
 
-/// Pushes `at` true bits, the bits of `values`, and a false bit. `wide` is as in `SingleBits`. The
-/// error is `Case` if there is not enough room.
+/// Pushes `at` true bits, the bits of `values`, and a false bit. `wide` says how the bits of
+/// `values` are packed (see `SingleBits`). The error is `Case` if there is not enough room.
 fn append(
     builder: &mut BitmapBuilder,
     at: usize,

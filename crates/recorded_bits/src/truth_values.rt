@@ -8,8 +8,8 @@ use polars_arrays_bits::packing::TruthValues;
 use polars_arrays_numbers::steps::Steps;
 
 /// The bits of a bitmap as truth values that are read one by one. If `wide`, they are packed like
-/// the results of comparisons of wide elements: in registers, eight at a time. The packed bits are
-/// equal.
+/// the results of comparisons of elements of more than 64 bits: in registers, eight at a time. The
+/// packed bits do not depend on `wide`.
 #[derive(Drop)]
 pub struct SingleBits<'a> {
     pub bits: &'a Bitmap,
@@ -60,7 +60,8 @@ impl CountedValues for CostlyBits<'_> {
         self.bits.get_bit(i)
     }
 
-    // Returns whether value `i` may be guessed, which is so if its cost is 0.
+    // Returns whether the guess of value `i` is sure to be right, which is so if the cost of the
+    // value is 0.
     fn is_sure(&self, i: usize) -> bool {
         self.costs[i] == 0
     }
