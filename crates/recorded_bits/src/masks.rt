@@ -163,8 +163,9 @@ pub fn combine(
 }
 
 /// Returns for each row whether two sides are equal (`Merge::Eq`) or differ (`Merge::Ne`). `q` says
-/// which stored values are equal or differ; `l` and `r` say which rows of the sides are present.
-/// The error is `Case` if the lengths differ, and `Memory` if an allocation fails.
+/// in which rows the stored values are equal, or for `Merge::Ne` differ. `l` and `r` say which rows
+/// of the sides are present. The error is `Case` if the lengths differ, and `Memory` if an
+/// allocation fails.
 pub fn combine_three(
     alloc: Global,
     merge: Merge,

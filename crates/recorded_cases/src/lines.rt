@@ -3,8 +3,8 @@
 //!
 //! - `line TEXT`: the result of the line TEXT, or `refused: WHY`
 //! - `line_bytes BYTES`: the result of the line of these bytes, which may be unprintable
-//! - `line_repeated N PIECE BYTES`: the result of the line of these bytes and then N times the
-//!   bytes of PIECE, which may be very long
+//! - `line_repeated N PIECE BYTES`: the result of the line that consists of BYTES and then N times
+//!   the bytes of PIECE. So the line may be very long
 //! - `run BYTES`: the number of lines of this input, the number of refused ones, and the bytes
 //!   written
 //! - `demo`: the bytes that the demo writes
@@ -14,7 +14,7 @@
 //! - `fault_text FAULT`: the message of a run that stopped by FAULT: `read`, `write` or `memory`
 //!
 //! The error of a function is `Word` if a word is missing or wrong, or `Memory` if an allocation
-//! fails.
+//! fails. Comments on functions say when another error is returned.
 
 use polars_tables_lines::arguments::command;
 use polars_tables_lines::demo::demo;
@@ -30,6 +30,7 @@ use std::str::from_utf8;
 
 /// Returns the result of `call` if it is a call of the line language, or `None` for any other call.
 /// `text` is the part of the line after the call and a space, and `words` are the words of `text`.
+/// The error is `Case` if a run or the demo failed in a way that it must not.
 pub fn answer(
     alloc: Global,
     call: &str,

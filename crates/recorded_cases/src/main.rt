@@ -105,7 +105,7 @@ fn check_files<R: Files + Print + Eprint + AllocGlobal>(
 }
 
 /// Checks each file that `words` names, or standard input if there are no words. Returns whether
-/// all counts are right.
+/// all counts are right, or `true` if `mode` is `Print`.
 fn check_all<R>(rt: &R, words: &[String], mode: Mode) -> Result<bool, Fault>
 where
     R: Files + Input + Print + Eprint + AllocGlobal,
@@ -117,8 +117,9 @@ where
     }
 }
 
-/// Checks the files that the program's arguments name, or prints their results after `--print`.
-/// Returns whether all counts are right.
+/// Checks the files that the program's arguments name, or standard input if they name none, and
+/// returns whether all counts are right. After `--print`, prints the results instead, and returns
+/// `true`.
 fn run<R: Env + Files + Input + Print + Eprint + AllocGlobal>(rt: &R) -> Result<bool, Fault> {
     let words: Vec<String> = env::args(rt)?.skip(1).collect(rt.alloc())?;
     match words.split_first() {

@@ -142,8 +142,8 @@ fn copy_array(alloc: Global, array: &AnyArray) -> Result<AnyArray, Fault>
     Ok(copy)
 }
 
-// Adds the array in `made` to `store` under `name`. If `made` is an error, returns what `refuse`
-// returns for it.
+// Adds the array in `made` to `store` under `name`. If `made` is an error, returns `Refused` if the
+// error says that there is no such array (see `refuse`), otherwise the error.
 fn add_made(
     alloc: Global,
     store: &mut Store,
@@ -192,8 +192,8 @@ fn refuse(alloc: Global, name: &str, fault: Fault) -> Result<Answer, Fault> {
     }
 }
 
-// Returns `Refused` with `name` and the text `refused: WHY`, where `why` is the reason. The error
-// is `Memory`.
+// Returns `Refused` with `name` and the text `refused: WHY`, in which WHY is `why` as text. The
+// error is `Memory`.
 fn refusal(alloc: Global, name: &str, why: &impl Display) -> Result<Answer, Fault> {
     let why = format!(in alloc; "refused: {why}")?;
     let name = name.to_string(alloc)?;
