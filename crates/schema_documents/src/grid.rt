@@ -4,9 +4,9 @@ ghost use Rattle.std.specs.Fmt.{decimal};
 ghost use Rattle.std.specs.Prelude.{◌≡◌, ◌++◌, ◌∷◌, [], ℕ, List, map, OnOk, IfOk, MatchResult};
 ghost use Rattle.polars_arrays_bits.specs.Errors.{IsMemory};
 ghost use Rattle.diff_tables.specs.Strings.{AreStrings};
-ghost use Rattle.schema_documents.specs.Grid.{distinct_text, end_cells, head_cells, head_names, header};
-ghost use Rattle.schema_documents.specs.Grid.{kind_cells, kind_names, number_cells, number_names};
-ghost use Rattle.schema_documents.specs.Grid.{row_of};
+ghost use Rattle.schema_documents.specs.Grid.{distinct_text, end_cells, head_cells, head_names};
+ghost use Rattle.schema_documents.specs.Grid.{header, kind_cells, kind_names, number_cells};
+ghost use Rattle.schema_documents.specs.Grid.{number_names, row_of};
 
 use diff_tables::strings::Strings;
 use diff_tables::table::Table;
