@@ -345,7 +345,10 @@ def key_twice(pair):
 
 def repeat_warned(said):
     """Returns the line that a run which ends well says of a repeated key."""
-    return f"dunkelva: warning: {said} (rows of one key are matched in their order; --unique refuses them)\n"
+    return (
+        f"dunkelva: warning: {said}; more keys may be repeated (rows of one key are matched in "
+        "their order; --unique refuses them)\n"
+    )
 
 
 def number_with_comma(table, options):

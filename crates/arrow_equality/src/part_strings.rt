@@ -126,9 +126,10 @@ fn are_texts<O: Offset>(offsets: &[O], base: usize, bytes: &[u8]) -> bool
     is_text(used) && begin_characters(offsets, base, bytes, to)
 }
 
-/// Returns whether a part without child arrays has good strings, which have the offsets `offsets`:
-/// one offset more than rows, and offsets that fit the base and the bytes. If `texts` is true, the
-/// strings also have to be UTF-8. The validity is not checked.
+/// Returns whether `offsets` delimit the strings of a part: the part has no child arrays and a name
+/// in UTF-8, there is one offset more than rows, and the offsets, less the part's base, never fall
+/// and stay within its bytes. If `texts` is true, the strings also have to be UTF-8. The validity
+/// is not checked.
 fn are_part_strings<O: Offset>(part: &Part<'_>, offsets: &[O], texts: bool) -> bool
     ensures { IsTrue result
         → ArePartStrings part.now (places_from part.now.base O.value offsets.now) texts }

@@ -436,8 +436,8 @@ pub(crate) fn compare_watching(
     };
     let status = compare_named(rt, left, right, may_be_documents, task, target)?;
     let _ = eprintln!(rt;
-        "dunkelva: warning: {error} (rows of one key are matched in their order; \
-         --unique refuses them)"
+        "dunkelva: warning: {error}; more keys may be repeated (rows of one key are matched in \
+         their order; --unique refuses them)"
     );
     Ok(status)
 }

@@ -176,7 +176,7 @@ static OPTIONS: [CliOption; 27] = [
         takes: Takes::Text,
         value: "WORD",
         goes_with: GoesWith::Tables,
-        help: "A field that is WORD, one word, is null; diff still compares its text",
+        help: "A field that is WORD, one word, is null, and unequal to an empty field",
         ..SWITCH
     },
     CliOption {

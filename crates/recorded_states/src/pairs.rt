@@ -185,9 +185,9 @@ pub fn of_columns<N: NewStates>(
     write_columns::<N>(alloc, store, left, right)
 }
 
-/// Reads two columns from `words`, separated by `|`. Returns their two states, the first with the
-/// second merged into it, and the second with the first merged into it, as text. The errors are
-/// those of `of_columns`.
+/// Reads two columns from `words`, separated by `|`. Returns four states as text: that of the first
+/// column, that of the second, the first with the second merged into it, and the second with the
+/// first merged into it. The errors are those of `of_columns`.
 pub fn either_way<N: NewStates>(
     alloc: Global,
     store: &Store,

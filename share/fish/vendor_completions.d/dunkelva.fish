@@ -16,7 +16,7 @@ complete -c dunkelva -n '__fish_seen_subcommand_from diff' -l missing-is-null -d
 complete -c dunkelva -n '__fish_seen_subcommand_from diff' -l tolerance -x -d 'Numbers in COLUMN, or at a path, may lie up to BOUND apart'
 complete -c dunkelva -n '__fish_seen_subcommand_from diff' -l relative-tolerance -x -d 'Numbers in COLUMN, or at a path, may lie up to BOUND times the larger one apart'
 complete -c dunkelva -n '__fish_seen_subcommand_from diff' -l input -x -a 'csv ndjson' -d 'The format of both files; without it their names tell it'
-complete -c dunkelva -n '__fish_seen_subcommand_from diff' -l null -x -d 'A field that is WORD, one word, is null; diff still compares its text'
+complete -c dunkelva -n '__fish_seen_subcommand_from diff' -l null -x -d 'A field that is WORD, one word, is null, and unequal to an empty field'
 complete -c dunkelva -n '__fish_seen_subcommand_from diff' -s d -l delimiter -x -d 'The byte between fields, \\t for a tab; without it a comma, or a tab in .tsv files'
 complete -c dunkelva -n '__fish_seen_subcommand_from diff' -l no-header -d 'The first record is a row; columns are named 1, 2, 3 ..'
 complete -c dunkelva -n '__fish_seen_subcommand_from diff' -l no-key-is-null -d 'A document without a part at a key path has the key null there'
