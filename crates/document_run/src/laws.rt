@@ -8,9 +8,9 @@ pub fn report_laws()
     ensures { ChangedAreNotSame }
 {}
 
-/// Law: reading one part of a text gives exactly the rows of the whole text that are in this part,
-/// in the same order and with the same line numbers. So laws about the parts of tables hold for the
-/// parts of documents.
+/// Law: with `--partition`, reading a text for part I of N gives exactly those rows of the whole
+/// text whose key belongs to part I, in the same order and with the same line numbers. So the laws
+/// about dividing tables into parts (`diff_parts`) hold for documents too.
 pub fn part_laws()
     ensures { KeepsDocuments }
 {}
