@@ -916,7 +916,8 @@ def repeats_warned(pair):
 
 def warned(pair):
     """Returns the lines that a run over a pair which ends well says of a repeated key and of paths
-    that no document has. Of a pair with a standard input only paths of --only are looked for, in the other file."""
+    that no document has. Of a pair with a standard input only paths of --only are looked for, in
+    the other file."""
     contents, sought = (pair.left_bytes, pair.right_bytes), paths_sought(pair.options)
     piped = pair.options["piped"]
     if piped is None:

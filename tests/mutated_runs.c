@@ -254,8 +254,8 @@ static ran run(const pair *of, int first, int second, int is_piped) {
 
 /* ---- what is asked of runs */
 
-/* Says whether nothing is said but warnings: of a path of an option at which no document has a part, of a repeated
-   key, or of a number with a comma. */
+/* Says whether nothing is said but warnings: of a path at which no document has a part, of a repeated key, or of a
+   number with a comma. */
 static int only_warns(const char *said) {
     for (; *said; said = strchr(said, '\n') + 1)
         if (!begins(said, "dunkelva: warning: ") || !strchr(said, '\n')) return 0;

@@ -357,8 +357,9 @@ def number_with_comma(table, options):
     bounded = [name for name, *_ in options.get("tolerances", [])]
     for row in table.rows[:MOST_ROWS]:
         for name, cell in zip(table.names, row):
-            by_value = options["numbers"] and name not in options.get("texts", []) or name in bounded
-            if by_value and is_chosen(name, options) and WITH_COMMA.fullmatch(cell):
+            is_number = options["numbers"] and name not in options.get("texts", [])
+            by_value = is_chosen(name, options) and (is_number or name in bounded)
+            if by_value and WITH_COMMA.fullmatch(cell):
                 return f'"{cell}" in column {in_quotes(name, "latin-1")}'
     return None
 
@@ -368,14 +369,17 @@ def comma_warned(pair):
     is one."""
     for file, table in zip(random_tables.named_files(pair.options), (pair.left, pair.right)):
         if file != "-" and (number := number_with_comma(table, pair.options)):
-            return f"dunkelva: warning: {file}: {number} is compared as text: numbers have no comma\n"
+            return (
+                f"dunkelva: warning: {file}: {number} is compared as text: numbers have no comma\n"
+            )
     return ""
 
 
 def warned(pair):
     """Returns what a run over two tables that ends well says."""
     options, said = pair.options, ""
-    if options["piped"] is None and options["keys"] and not options["unique"] and (twice := repeated_key(pair)):
+    may_repeat = options["keys"] and not options["unique"] and options["piped"] is None
+    if may_repeat and (twice := repeated_key(pair)):
         said = repeat_warned(twice)
     if status_of(comparison_of(pair)):
         said += comma_warned(pair)
