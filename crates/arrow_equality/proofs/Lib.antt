@@ -1,5 +1,9 @@
 pub mod Comparisons
 pub mod Examples
+pub mod FieldWitnesses
+pub mod Fields
 pub mod LentPlaces
 pub mod NullRows
+pub mod NumberColumns
 pub mod StringColumns
+pub mod StructColumns

@@ -49,13 +49,13 @@ abbrev pub string_column : Kind → Part → List (Option ℕ) → Column
 string_column type p all = column_with p type (strings_in all p) (λ from n. n)
 
 -- one part alone is a column
-one-column : (k : PartKind) (p : Part) → kind_number p.kind ≡ Some k → p.children ≡ 0 → rows_of_parts (p ∷ []) ≡ column_of (Some k) p []
+pub one-column : (k : PartKind) (p : Part) → kind_number p.kind ≡ Some k → p.children ≡ 0 → rows_of_parts (p ∷ []) ≡ column_of (Some k) p []
 one-column k p is alone =
     ap (λ (n : ℕ). only (column_of (kind_number p.kind) p (take n []) ∷ drop n [])) alone
     ∙ ap (λ (o : Option PartKind). column_of o p []) is
 
 -- it is good if its name is a text, and if it is good for its kind
-one-good : (k : PartKind) (p : Part) → kind_number p.kind ≡ Some k → p.children ≡ 0 → IsUtf8 p.name.now → GoodKind k p [] → AreGoodParts (p ∷ [])
+pub one-good : (k : PartKind) (p : Part) → kind_number p.kind ≡ Some k → p.children ≡ 0 → IsUtf8 p.name.now → GoodKind k p [] → AreGoodParts (p ∷ [])
 one-good k p is alone name good = record {
   all = (
     record {
@@ -69,7 +69,7 @@ one-good k p is alone name good = record {
 }
 
 -- and only then
-one-kind : (k : PartKind) (p : Part) → kind_number p.kind ≡ Some k → AreGoodParts (p ∷ []) → GoodKind k p []
+pub one-kind : (k : PartKind) (p : Part) → kind_number p.kind ≡ Some k → AreGoodParts (p ∷ []) → GoodKind k p []
 one-kind k p is good =
     let alone : p.children ≡ 0 = omega (arith, good.all.0.children) in
     subst (λ (o : Option PartKind). GoodRows o p []) is (subst (λ (n : ℕ). GoodRows (kind_number p.kind) p (take n [])) alone good.all.0.rows)
@@ -208,7 +208,7 @@ string-LargeUtf8 = record {
   tally_is = λ a b n. refl;
 }
 
-if-some : {A : Type 0} (P Q : A → Type 0) → ((x : A) → P x → Q x) → (o : Option A) → IfSome o P → IfSome o Q
+pub if-some : {A : Type 0} (P Q : A → Type 0) → ((x : A) → P x → Q x) → (o : Option A) → IfSome o P → IfSome o Q
 if-some P Q f (Some x) told = f x told
 if-some P Q f None told = tt
 

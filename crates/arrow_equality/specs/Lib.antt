@@ -1,5 +1,7 @@
 pub mod Compared
 pub mod Equal
 pub mod Nulls
+pub mod Numbers
 pub mod PartStrings
 pub mod Strings
+pub mod Structs

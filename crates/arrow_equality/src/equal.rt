@@ -10,6 +10,7 @@ ghost use Rattle.arrow_equality.specs.Equal.{IsRefusedComparison, IsTrueRefusal}
 
 use crate::compared::{Compared, compare, write};
 use crate::strings::compare_in_place;
+use crate::structs::{ByField, LentComparison, Whole};
 use arrow_arrays::build::build;
 use arrow_parts::part::Part;
 use arrow_parts::refused::Refused;
@@ -49,7 +50,11 @@ fn compare_parts(alloc: Global, left: &[Part<'_>], right: &[Part<'_>]) -> Result
 
 /// Compares two lent arrays, row by row. If `compare_in_place` can compare them, nothing but the
 /// validities is copied. Otherwise builds both arrays first. Fails as `compare_parts` does.
-fn compare_lent(alloc: Global, left: &[Part<'_>], right: &[Part<'_>]) -> Result<Compared, Refused>
+pub fn compare_whole(
+    alloc: Global,
+    left: &[Part<'_>],
+    right: &[Part<'_>],
+) -> Result<Compared, Refused>
     ensures compared { IfOk result
         (IsComparison (rows_of_parts left.now) (rows_of_parts right.now)) }
     ensures good { IfOk result (λ _. AreGoodParts left.now × AreGoodParts right.now) }
@@ -63,6 +68,23 @@ fn compare_lent(alloc: Global, left: &[Part<'_>], right: &[Part<'_>]) -> Result<
         Some(compared) => Ok(compared),
         None => compare_parts(alloc, left, right),
     }
+}
+
+/// Compares two lent arrays, row by row: structs field by field, also structs inside of up to three
+/// others, and all other arrays by `compare_whole`. Fails as `compare_parts` does.
+fn compare_lent(alloc: Global, left: &[Part<'_>], right: &[Part<'_>]) -> Result<Compared, Refused>
+    ensures compared { IfOk result
+        (IsComparison (rows_of_parts left.now) (rows_of_parts right.now)) }
+    ensures good { IfOk result (λ _. AreGoodParts left.now × AreGoodParts right.now) }
+    ensures refused { IfErr result (IsRefusedComparison left.now right.now) }
+{
+    let inner = ByField {
+        fields: ByField { fields: Whole },
+    };
+    let outer = ByField {
+        fields: ByField { fields: inner },
+    };
+    outer.compare(alloc, left, right)
 }
 
 /// Compares two lent arrays, row by row. Sets bit `i` of `out` if the two rows `i` are equal as

@@ -4,5 +4,7 @@
 mod compared;
 pub mod equal;
 pub mod nulls;
+mod numbers;
 mod part_strings;
 mod strings;
+mod structs;

@@ -105,7 +105,7 @@ fn begin_characters<O: Offset>(offsets: &[O], base: usize, bytes: &[u8], end: us
 }
 
 /// Returns whether `bytes` is UTF-8.
-fn is_text(bytes: &[u8]) -> bool
+pub fn is_text(bytes: &[u8]) -> bool
     ensures { IsTrue result ↔ IsUtf8 bytes.now }
 {
     from_utf8(bytes).is_ok()

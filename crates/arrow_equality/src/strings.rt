@@ -14,6 +14,7 @@ ghost use Rattle.arrow_equality.specs.PartStrings.{ArePartStrings, same_strings}
 ghost use Rattle.arrow_equality.specs.Strings.{AreComparedStrings};
 
 use crate::compared::Compared;
+use crate::numbers::compare_numbers_in_place;
 use crate::part_strings::{PartStrings, StringPairs};
 use arrow_parts::bits::validity;
 use arrow_parts::part::{Part, PartKind};
@@ -23,23 +24,23 @@ use polars_arrays_bits::packing::TruthValues;
 use polars_arrays_flat::mask::Mask;
 use polars_arrays_numbers::offset::Offset;
 use polars_arrays_numbers::steps::Steps;
-use polars_compare_leaves::joining::{Relation, join_masks};
+use polars_compare_leaves::joining::{RawValues, Relation, join_masks};
 use std::alloc::Global;
 
 /// Combines truth values, which say for each row of two parts whether the stored rows are equal,
 /// with the validities of the parts. Returns the bits of missing equality: null is equal to null
 /// alone. Fails with `Parts` if a part has fewer validity bits than rows, and with `Memory` if an
 /// allocation fails.
-fn join_parts<V: TruthValues>(
+pub fn join_parts<R: RawValues + Drop>(
     alloc: Global,
-    equal: &V,
+    equal: R,
     left: &Part<'_>,
     right: &Part<'_>,
 ) -> Result<Bitmap, Refused>
-    requires left { length (V.values equal.now) ≡ left.now.rows }
-    requires right { length (V.values equal.now) ≡ right.now.rows }
+    requires left { length (R.values equal) ≡ left.now.rows }
+    requires right { length (R.values equal) ≡ right.now.rows }
     ensures joined { IfOk result
-        (Joined true (present_in left.now) (present_in right.now) (V.values equal.now)) }
+        (Joined true (present_in left.now) (present_in right.now) (R.values equal)) }
     ensures held { IfOk result (λ _. HoldRows left.now × HoldRows right.now) }
     ensures refused { IfErr result (IsHonest (HoldRows left.now × HoldRows right.now)) }
 {
@@ -59,7 +60,7 @@ fn join_parts<V: TruthValues>(
 
 /// Compares the rows of two parts, given truth values that say for each row whether the stored rows
 /// are equal. Counts one comparison for each row. Fails as `join_parts` does.
-fn compare_joined<V: TruthValues>(
+pub fn compare_joined<V: TruthValues>(
     alloc: Global,
     equal: &V,
     left: &Part<'_>,
@@ -140,9 +141,10 @@ fn compare_strings<O: Offset>(
 }
 
 /// Compares two parts of the same kind, row by row, if both store equally many strings between
-/// offsets and are good parts by themselves. Copies only the validities. Returns `None` if the
-/// parts are of another kind, differ in kind or length, or are not good. Fails with `Parts` if a
-/// part has fewer validity bits than rows, and with `Memory` if an allocation fails.
+/// offsets, or numbers of up to 64 bits, and are good parts by themselves. Copies only the
+/// validities. Returns `None` if the parts are of another kind, differ in kind or length, or are
+/// not good. Fails with `Parts` if a part has fewer validity bits than rows, and with `Memory` if
+/// an allocation fails.
 pub fn compare_in_place(
     alloc: Global,
     left: &Part<'_>,
@@ -168,6 +170,7 @@ pub fn compare_in_place(
         Some(PartKind::LargeUtf8) => {
             compare_strings(alloc, left, left.i64s, right, right.i64s, true)
         }
-        _ => Ok(None),
+        Some(kind) => compare_numbers_in_place(alloc, kind, left, right),
+        None => Ok(None),
     }
 }

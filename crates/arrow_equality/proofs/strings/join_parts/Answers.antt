@@ -21,8 +21,8 @@ pub returns-clause-joined : goal.returns-clause-joined
 returns-clause-joined g c =
     let left : c.bits.result ≡ present_in c.args.left.now = search rules in
     let right : c.bits-2.result ≡ present_in c.args.right.now = search rules in
-    subst (λ (l : Option (List Bool)). Joined true l (present_in c.args.right.now) (g.V.TruthValues.values c.args.equal.now) c.in_ok-bits.bits) left
-    (subst (λ (r : Option (List Bool)). Joined true c.bits.result r (g.V.TruthValues.values c.args.equal.now) c.in_ok-bits.bits) right c.in_ok-bits.ensures)
+    subst (λ (l : Option (List Bool)). Joined true l (present_in c.args.right.now) (g.R.RawValues.values c.args.equal) c.in_ok-bits.bits) left
+    (subst (λ (r : Option (List Bool)). Joined true c.bits.result r (g.R.RawValues.values c.args.equal) c.in_ok-bits.bits) right c.in_ok-bits.ensures)
 
 pub returns-in_err-left_bits-clause-refused : goal.returns-in_err-left_bits-clause-refused
 returns-in_err-left_bits-clause-refused g c =

@@ -1,6 +1,6 @@
 use Rattle.std.proofs.Common.{arith}
 use Rattle.arrow_equality.proofs.StringColumns.{lone-good}
-use Rattle.arrow_equality.proofs.equal.compare_lent.Goals as goal
+use Rattle.arrow_equality.proofs.equal.compare_whole.Goals as goal
 
 pub returns-in-Some-clause-good : goal.returns-in-Some-clause-good
 returns-in-Some-clause-good c =
