@@ -16,9 +16,9 @@ const MOST_ROWS: usize = 1000;
 /// minus sign it has only digits, points and commas, with a digit at both ends and a comma between.
 fn has_comma(cell: &[u8]) -> bool {
     let digits = cell.strip_prefix(b"-").unwrap_or(cell);
-    let is_number = digits
-        .iter()
-        .all(|byte| byte.is_ascii_digit() || *byte == b'.' || *byte == b',');
+    let is_number = digits.iter().all(|byte| byte.is_ascii_digit()
+        || *byte == b'.'
+        || *byte == b',');
     let first = digits.first().is_some_and(|byte| byte.is_ascii_digit());
     let last = digits.last().is_some_and(|byte| byte.is_ascii_digit());
     is_number && first && last && digits.contains(&b',')
