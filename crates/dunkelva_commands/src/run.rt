@@ -8,7 +8,7 @@ use crate::commas::warn_of_commas;
 use crate::outputs::refuse_own_target;
 use crate::schema::show_schema;
 use crate::schema_changes::compare_schemas;
-use crate::tasks::{Task, compare_named, compare_watching};
+use crate::tasks::{Task, can_repeat, compare_again, compare_named};
 use crate::unfound::{refuse_unknown_only, warn_of_unknown};
 use clap::ArgMatches;
 use diff_columns::choice::Choice;
@@ -41,47 +41,91 @@ const DIFFERENT: u8 = 1;
 /// The exit status if the program fails, for example because files can't be compared.
 const TROUBLE: u8 = 2;
 
-/// Compares the two CSV files `files` with `options`; `matches` says whether they are sorted by
-/// key. Writes the report to `target`, and returns the exit status. Unless the files are sorted,
-/// warns of a repeated key (if keys need not be unique) and, if there is a difference, of numbers
-/// with a comma. Fails if an option can't be given with `--sorted`, or if the comparison fails.
-fn compare_by(
+/// Compares the two CSV files `left` and `right` with `options`, but a repeated key is an error.
+/// `may_be_documents` is as for `compare_named`. Writes the report to `target`, and returns the
+/// exit status. Fails as `compare_named` does.
+fn compare_unique(
     rt: &HostRuntime,
-    matches: &ArgMatches<'_>,
     (left, right): (&str, &str),
-    options: Options<'_>,
+    may_be_documents: bool,
+    options: &Options<'_>,
     target: Target<'_>,
 ) -> Result<u8> {
-    let is_said = matches.contains_id("input");
-    if matches.get_flag("sorted") {
-        refuse_unsorted(matches)?;
-        return compare_named(rt, left, right, is_said, Task::Sorted(&options), target);
-    }
-    let task = Task::Tables(&options);
-    let status = if options.choice.keys.is_empty() || options.unique {
-        compare_named(rt, left, right, is_said, task, target)?
-    } else {
-        let unique = Options {
-            unique: true,
-            ..options
-        };
-        let first = Task::Tables(&unique);
-        compare_watching(rt, (left, right), is_said, first, task, target)?
+    let (choice, numbers, null) = (options.choice, options.numbers, options.null);
+    let tolerances = options.tolerances;
+    let unique = Options {
+        choice,
+        csv: options.csv,
+        numbers,
+        tolerances,
+        part: options.part,
+        null,
+        limit: options.limit,
+        common: options.common,
+        unique: true,
+        format: options.format,
+        colored: options.colored,
     };
-    if status == DIFFERENT {
-        warn_of_commas(rt, left, right, &options);
-    }
-    Ok(status)
+    compare_named(
+        rt,
+        left,
+        right,
+        may_be_documents,
+        Task::Tables(&unique),
+        target,
+    )
 }
 
-/// Compares the two CSV files `files` with the columns that `names` gives and with `tolerances`.
-/// The other options are those in `matches`. Writes the report to `target`, and returns the exit
-/// status. Fails if an option is invalid or can't be given with `--sorted`, or if the comparison
+/// Compares the two CSV files `left` and `right`, which need not be sorted, with `options`.
+/// `may_be_documents` is as for `compare_named`. Writes the report to `target`, and returns the
+/// exit status. Warns of a repeated key (`compare_again`), unless keys have to be unique or a file
+/// can't be read twice. Fails as `compare_named` does.
+fn compare_tables(
+    rt: &HostRuntime,
+    (left, right): (&str, &str),
+    may_be_documents: bool,
+    options: &Options<'_>,
+    target: Target<'_>,
+) -> Result<u8> {
+    let task = Task::Tables(options);
+    if options.choice.keys.is_empty() || options.unique || !can_repeat(rt, left, right) {
+        return compare_named(rt, left, right, may_be_documents, task, target);
+    }
+    let first = compare_unique(rt, (left, right), may_be_documents, options, target);
+    compare_again(rt, (left, right), may_be_documents, first, task, target)
+}
+
+/// Compares the files of documents `left` and `right` with `options`, but a repeated key is an
+/// error. Writes the report to `target`, and returns the exit status. Fails as `compare_named`
+/// does.
+fn compare_unique_documents(
+    rt: &HostRuntime,
+    (left, right): (&str, &str),
+    options: &DocumentOptions<'_>,
+    target: Target<'_>,
+) -> Result<u8> {
+    let (keys, names, rules) = (options.keys, options.names, options.rules);
+    let unique = DocumentOptions {
+        keys,
+        names,
+        reading: options.reading,
+        rules,
+        limit: options.limit,
+        unique: true,
+        format: options.format,
+        colored: options.colored,
+    };
+    compare_named(rt, left, right, true, Task::Documents(&unique), target)
+}
+
+/// Compares the CSV files `left` and `right` with the columns that `names` gives and with
+/// `tolerances`. The other options are those in `matches`. Writes the report to `target`, and
+/// returns the exit status. Warns of numbers with a comma if there is a difference. Fails if an option is invalid or can't be given with `--sorted`, or if the comparison
 /// fails.
 fn diff_by_names(
     rt: &HostRuntime,
     matches: &ArgMatches<'_>,
-    files: (&str, &str),
+    (left, right): (&str, &str),
     names: &Names<'_>,
     tolerances: &[Tolerance<'_>],
     target: Target<'_>,
@@ -93,7 +137,7 @@ fn diff_by_names(
     };
     let options = Options {
         choice,
-        csv: csv_options(matches, files.0, files.1)?,
+        csv: csv_options(matches, left, right)?,
         numbers: matches
             .get_flag("numbers")
             .then_some(names.texts.as_slice()),
@@ -106,7 +150,16 @@ fn diff_by_names(
         format: format_of(matches),
         colored: is_colored(rt, matches),
     };
-    compare_by(rt, matches, files, options, target)
+    let is_said = matches.contains_id("input");
+    if matches.get_flag("sorted") {
+        refuse_unsorted(matches)?;
+        return compare_named(rt, left, right, is_said, Task::Sorted(&options), target);
+    }
+    let status = compare_tables(rt, (left, right), is_said, &options, target)?;
+    if status == DIFFERENT {
+        warn_of_commas(rt, left, right, &options);
+    }
+    Ok(status)
 }
 
 /// Compares the two CSV files `files` with the options in `matches`. Writes the report to `target`,
@@ -124,31 +177,21 @@ fn diff_tables(
     diff_by_names(rt, matches, files, &names, &tolerances, target)
 }
 
-/// Compares the two files of documents `files` with `options`. Writes the report to `target`, and
-/// returns the exit status. Warns of a repeated key, unless keys have to be unique. Fails if the
-/// comparison fails.
-fn compare_by_paths(
+/// Compares the files of documents `left` and `right` with `options`. Writes the report to
+/// `target`, and returns the exit status. Warns of a repeated key (`compare_again`), unless keys
+/// have to be unique or a file can't be read twice. Fails as `compare_named` does.
+fn compare_documents(
     rt: &HostRuntime,
-    files: (&str, &str),
-    options: DocumentOptions<'_>,
+    (left, right): (&str, &str),
+    options: &DocumentOptions<'_>,
     target: Target<'_>,
 ) -> Result<u8> {
-    let task = Task::Documents(&options);
-    if options.keys.is_empty() || options.unique {
-        return compare_named(rt, files.0, files.1, true, task, target);
+    let task = Task::Documents(options);
+    if options.keys.is_empty() || options.unique || !can_repeat(rt, left, right) {
+        return compare_named(rt, left, right, true, task, target);
     }
-    let unique = DocumentOptions {
-        keys: options.keys,
-        names: options.names,
-        reading: options.reading,
-        rules: options.rules,
-        limit: options.limit,
-        unique: true,
-        format: options.format,
-        colored: options.colored,
-    };
-    let first = Task::Documents(&unique);
-    compare_watching(rt, files, true, first, task, target)
+    let first = compare_unique_documents(rt, (left, right), options, target);
+    compare_again(rt, (left, right), true, first, task, target)
 }
 
 /// Compares the files of documents `left` and `right` with the given keys and rules. The other
@@ -178,7 +221,7 @@ fn diff_by_paths(
         colored: is_colored(rt, matches),
     };
     refuse_unknown_only(rt, matches, rules, left, right)?;
-    let status = compare_by_paths(rt, (left, right), options, target)?;
+    let status = compare_documents(rt, (left, right), &options, target)?;
     warn_of_unknown(rt, matches, keys, rules, left, right);
     Ok(status)
 }

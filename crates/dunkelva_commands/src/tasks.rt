@@ -405,29 +405,24 @@ pub(crate) fn compare_named(
     }
 }
 
-/// Returns whether both files, `left` and `right`, can be read a second time, so that a comparison
-/// can warn of a repeated key.
-fn can_repeat(rt: &HostRuntime, left: &str, right: &str) -> bool {
+/// Returns whether the files named `left` and `right` can both be read a second time.
+pub(crate) fn can_repeat(rt: &HostRuntime, left: &str, right: &str) -> bool {
     open_again(rt, left).is_some() && open_again(rt, right).is_some()
 }
 
-/// Compares the files named `left` and `right` with `task`, writes the report to `target`, and
-/// returns the exit status. Warns on standard error of a repeated key, if both files can be read a
-/// second time. To find such a key, runs `unique` first, which is `task` except that a repeated key
-/// is an error. Only after this error, or if a file can't be read twice, `task` itself is run.
-/// Fails as `compare_named` does.
-pub(crate) fn compare_watching(
+/// Returns `first`, the result of a comparison of the files named `left` and `right` with unique
+/// keys, unless it is the error that a key is repeated. Then compares the files as `compare_named`
+/// does with `task`, which allows repeated keys, prints a warning that names the key on standard
+/// error, and returns the exit status.
+pub(crate) fn compare_again(
     rt: &HostRuntime,
     (left, right): (&str, &str),
     may_be_documents: bool,
-    unique: Task<'_>,
+    first: Result<u8>,
     task: Task<'_>,
     target: Target<'_>,
 ) -> Result<u8> {
-    if !can_repeat(rt, left, right) {
-        return compare_named(rt, left, right, may_be_documents, task, target);
-    }
-    let error = match compare_named(rt, left, right, may_be_documents, unique, target) {
+    let error = match first {
         Ok(status) => return Ok(status),
         Err(error) => error,
     };
