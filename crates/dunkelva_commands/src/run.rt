@@ -120,8 +120,8 @@ fn compare_unique_documents(
 
 /// Compares the CSV files `left` and `right` with the columns that `names` gives and with
 /// `tolerances`. The other options are those in `matches`. Writes the report to `target`, and
-/// returns the exit status. Warns of numbers with a comma if there is a difference. Fails if an option is invalid or can't be given with `--sorted`, or if the comparison
-/// fails.
+/// returns the exit status. Warns of numbers with a comma if there is a difference. Fails if an
+/// option is invalid or can't be given with `--sorted`, or if the comparison fails.
 fn diff_by_names(
     rt: &HostRuntime,
     matches: &ArgMatches<'_>,
