@@ -158,8 +158,8 @@ fn filled(
     Ok(array)
 }
 
-/// Builds the array of the last shape, and pushes it onto `stack` in place of its `count` child
-/// arrays. Fails as `filled` does.
+/// Pops the last shape and the last `count` arrays of `stack`, which are its children. Builds the
+/// array of this shape from them, and pushes it onto `stack`. Fails as `filled` does.
 fn step(
     alloc: Global,
     count: usize,

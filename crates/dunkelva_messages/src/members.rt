@@ -136,9 +136,9 @@ fn hint_in(alloc: Global, document: &Value<'_>, path: &str) -> Option<String> {
     }
 }
 
-/// Returns the hint of `hint_in` about `path`, which leads to no part of the document in the line
-/// with the number `line` of the regular file `file`. The first line is 1. Returns `None` if the
-/// line can't be read again or is not JSON, or if there is no hint.
+/// Reads line `line` of the regular file `file` again, and returns the hint of `hint_in` about
+/// `path`, which the document in this line does not have. The first line is 1. Returns `None` if
+/// the line can't be read or is not JSON, or if there is no hint.
 fn hint_at(rt: &HostRuntime, file: &str, line: u64, path: &str) -> Option<String> {
     let bytes = line_bytes(rt, file, line)?;
     let text = str::from_utf8(&bytes).ok()?;

@@ -75,8 +75,8 @@ macro_rules! on_lists {
 }
 
 // Returns the number of leading pairs of lists that match, at most `n`. Pair `i` is list `a + i` of
-// the left array and list `b + i` of the right one. Not inlined, so that the code of `matching_run`
-// stays small: it calls this function only if all known pairs match.
+// the left array and list `b + i` of the right one. `matching_run` calls this function only if all
+// pairs of its `Matches` match. Not inlined, so that the code of `matching_run` stays small.
 #[inline(never)]
 fn run_length(left: &ListArray, a: usize, right: &ListArray, b: usize, n: usize) -> usize
     requires left_good { IsGood (List left.now) }

@@ -56,6 +56,7 @@ impl CountedValues for CostlyBits<'_> {
         self.bits.get_bit(i)
     }
 
+    // Returns value `i`, and adds no cost.
     fn guess(&self, i: usize) -> bool {
         self.bits.get_bit(i)
     }
