@@ -4,15 +4,9 @@
 //! parsed them. The functions that return a `Result` may also fail because an allocation fails.
 #![tactic(auto)]
 
-mod columns;
-mod commas;
-mod document_key;
-mod key_columns;
 mod outputs;
 mod progress;
 pub mod run;
 mod schema;
 mod schema_changes;
 mod tasks;
-mod trouble;
-mod unfound;

@@ -4,18 +4,18 @@
 //! output is a closed pipe. Otherwise it is 0. `run` prints the errors that the other functions
 //! return.
 
-use crate::commas::warn_of_commas;
 use crate::outputs::refuse_own_target;
 use crate::schema::show_schema;
 use crate::schema_changes::compare_schemas;
 use crate::tasks::{Task, can_repeat, compare_again, compare_named};
-use crate::unfound::{refuse_unknown_only, warn_of_unknown};
 use clap::ArgMatches;
 use diff_columns::choice::Choice;
 use diff_run::options::Options;
 use diff_tolerances::cells::Tolerance;
 use document_rows::reading::Reading;
 use document_run::options::DocumentOptions;
+use dunkelva_diagnostics::commas::warn_of_commas;
+use dunkelva_diagnostics::unfound::{refuse_unknown_only, warn_of_unknown};
 use dunkelva_messages::error::Result;
 use dunkelva_messages::hints::{explained, refuse_not_text};
 use dunkelva_messages::trouble;

@@ -3,9 +3,9 @@
 use crate::outputs::refuse_own_output;
 use crate::schema::{form_in, print_text};
 use crate::tasks::open_for;
-use crate::trouble::{csv_trouble, schema_trouble};
 use clap::ArgMatches;
 use diff_csv::options::CsvOptions;
+use dunkelva_diagnostics::trouble::{csv_trouble, schema_trouble};
 use dunkelva_messages::error::Result;
 use dunkelva_messages::files::open;
 use dunkelva_messages::trouble;

@@ -1,7 +1,6 @@
 //! Comparisons of two inputs, and the output of their reports.
 
 use crate::progress::{Counted, ErasingWriter, Progress};
-use crate::trouble::{document_trouble, sorted_trouble, table_trouble};
 use diff_aligned::aligned::{Sheet, push_aligned};
 use diff_keys::outcome::Outcome;
 use diff_markdown::markdown::push_markdown;
@@ -15,6 +14,7 @@ use diff_words::formats::Format;
 use document_run::error::DocumentError;
 use document_run::options::DocumentOptions;
 use document_run::run::run_documents;
+use dunkelva_diagnostics::trouble::{document_trouble, sorted_trouble, table_trouble};
 use dunkelva_messages::error::{About, Result};
 use dunkelva_messages::files::{Source, open, open_again, total_of};
 use dunkelva_messages::hints::explained;

@@ -80,7 +80,7 @@ fn found(rt: &HostRuntime, file: &str, options: &Options<'_>) -> Option<String> 
 /// Prints a warning on standard error if one of the first rows of `left` or `right` has a number
 /// with a comma in a column whose numbers are compared by value, since this number is compared as a
 /// text. Prints only one warning. A file that can't be read again is not searched.
-pub(crate) fn warn_of_commas(rt: &HostRuntime, left: &str, right: &str, options: &Options<'_>) {
+pub fn warn_of_commas(rt: &HostRuntime, left: &str, right: &str, options: &Options<'_>) {
     if options.numbers.is_none() && options.tolerances.is_none() {
         return;
     }

@@ -59,7 +59,7 @@ fn other_length(line: u64, found: u64, expected: u64, csv: CsvOptions) -> Error 
 /// Errors for a record of another length and for an open quote are marked with their cause, so that
 /// a hint can be added later. A read that failed with `InvalidData` means that the file begins like
 /// a JSON document.
-pub(crate) fn csv_trouble(cause: &CsvError, csv: CsvOptions) -> Error {
+pub fn csv_trouble(cause: &CsvError, csv: CsvOptions) -> Error {
     match cause {
         CsvError::Length {
             line,
@@ -259,7 +259,7 @@ fn columns_trouble(
 
 /// Returns the error to print for `error`, which occurred in a comparison of the tables named
 /// `names`. If `error` is about one of the two files, the returned error names this file.
-pub(crate) fn table_trouble(
+pub fn table_trouble(
     rt: &HostRuntime,
     error: &RunError,
     names: (&str, &str),
@@ -299,7 +299,7 @@ fn lesser_key(rt: &HostRuntime, file: &str, line: u64, options: &Options<'_>) ->
 /// Returns the error to print for `error`, which occurred in a comparison of the sorted tables
 /// named `names`. For a row whose key is less than the key before it, or comes twice, the returned
 /// error names the file.
-pub(crate) fn sorted_trouble(
+pub fn sorted_trouble(
     rt: &HostRuntime,
     error: &SortedError,
     names: (&str, &str),
@@ -363,7 +363,7 @@ const ALL_SKIPPED: &str = "--skip-bad would skip every line";
 
 /// Returns the error to print for `error`, the reason why the schema of a file of documents can't
 /// be read.
-pub(crate) fn schema_trouble(error: &SchemaError) -> Error {
+pub fn schema_trouble(error: &SchemaError) -> Error {
     match error {
         SchemaError::Read { cause } => read_trouble(cause, &[]),
         SchemaError::AllSkipped => trouble!("{ALL_SKIPPED}"),
@@ -394,7 +394,7 @@ fn unread(rt: &HostRuntime, file: &str, cause: &ReadError, keys: &[&[u8]]) -> Er
 
 /// Returns the error to print for `error`, which occurred in a comparison of the files of documents
 /// named `names`. If `error` is about one of the two files, the returned error names this file.
-pub(crate) fn document_trouble(
+pub fn document_trouble(
     rt: &HostRuntime,
     error: &DocumentError,
     names: (&str, &str),

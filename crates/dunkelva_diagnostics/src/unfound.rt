@@ -411,7 +411,7 @@ fn unknown_only(
 /// `--only`, so that nothing would be compared. Does not fail if `--only` is not given, if there
 /// are no documents, or if a file can't be read again, since the part may be in that file. `rules`
 /// is parsed from the options.
-pub(crate) fn refuse_unknown_only(
+pub fn refuse_unknown_only(
     rt: &HostRuntime,
     matches: &ArgMatches<'_>,
     rules: &Rules,
@@ -432,7 +432,7 @@ pub(crate) fn refuse_unknown_only(
 /// `--key` too. If only one file can be read again, looks only for the paths of `--only`, in that
 /// file. Prints nothing if neither file can be read again, or if the searched files have no
 /// documents.
-pub(crate) fn warn_of_unknown(
+pub fn warn_of_unknown(
     rt: &HostRuntime,
     matches: &ArgMatches<'_>,
     keys: &Keys<'_>,
