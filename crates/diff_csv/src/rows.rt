@@ -109,9 +109,10 @@ impl Rows {
         })
     }
 
-    /// Appends the wanted cells of the record `row` and `line`, the line at which it begins, if the
-    /// row is in the wanted part or no part is wanted. Else does nothing. `number` is the number of
-    /// the row in the text, from 1 on. It is stored only if a part is wanted.
+    /// Appends a row: the cells of the record `row` in the wanted columns, and `line`, the line at
+    /// which the record begins. Does nothing if only the rows of a part are wanted and the row is
+    /// not in this part. `number` is the number of the row in the text, from 1 on. It is stored
+    /// only if a part is wanted.
     pub(crate) fn push(
         &mut self,
         row: &ByteRecord,

@@ -5,7 +5,8 @@ use diff_parts::part::Part;
 /// The rows and columns to read from a text.
 #[derive(Clone, Copy)]
 pub struct Wanted<'a> {
-    /// The indices of the columns to read, in the order that they get in the table.
+    /// The indices of the columns to read. Column `k` of the table that is read is column
+    /// `columns[k]` of the text.
     pub columns: &'a [usize],
     /// The key columns, as indices into `columns`.
     pub keys: &'a [usize],

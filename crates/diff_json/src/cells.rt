@@ -8,8 +8,9 @@ use crate::strings::push_string;
 use diff_words::cells::is_null;
 use std::alloc::AllocError;
 
-/// Appends the JSON value `null` if `cell` equals `null`, the text that stands for no value.
-/// Appends `cell` as a JSON string if it does not, or if `null` is `None`.
+/// Appends the JSON value `null` if `cell` stands for no value, that is, if it equals the text in
+/// the parameter `null`. Otherwise, also if the parameter is `None`, appends `cell` as a JSON
+/// string.
 #[tactic(auto, unfolding(crate::specs::Cells::json_cell))]
 pub(crate) fn push_cell(
     out: &mut Vec<u8>,

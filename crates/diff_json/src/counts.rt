@@ -88,9 +88,10 @@ pub fn push_totals(
     Ok(())
 }
 
-/// Appends the last line of a report, the JSON line with the counts. `counts` has for each column
-/// the number of row pairs that differ in it. At most `limit` differences have a line of their own;
-/// the others are counted as `not_shown`.
+/// Appends the last line of a report, the JSON line with the counts. `names` has the names of the
+/// columns, and `counts` has for each column the number of row pairs that differ in it. At most
+/// `limit` differences have a line of their own. All further differences are counted as
+/// `not_shown`.
 pub fn push_counts(
     out: &mut Vec<u8>,
     names: &BinaryArray<i64>,

@@ -13,8 +13,8 @@ ghost use Rattle.diff_json.specs.Laws.{column_value, counts_value, pair_value, r
 ghost use Rattle.diff_json.specs.Lines.{pair_object, row_object};
 ghost use Rattle.diff_json.specs.Plain.{IsLine};
 
-/// Law: the text written for a changed pair of rows is a single line, and a JSON reader gets back
-/// its members.
+/// States that the text written for a changed pair of rows is a single line, and that a JSON reader
+/// gets back the members that were written.
 pub fn law_pair()
     ensures read { (n : Naming) (columns : List ℕ) (i left_line : ℕ) (left : List (List ℕ))
         (j right_line : ℕ) (right : List (List ℕ)) → i < 2 ^ 64 → left_line < 2 ^ 64 → j < 2 ^ 64
@@ -27,8 +27,8 @@ pub fn law_pair()
         → IsLine (pair_object n columns i left_line left j right_line right) }
 {}
 
-/// Law: the text written for a removed or added row is a single line, and a JSON reader gets back
-/// its members.
+/// States that the text written for a removed or added row is a single line, and that a JSON reader
+/// gets back the members that were written.
 pub fn law_row()
     ensures removed_line { (n : Naming) (i line : ℕ) (cells : List (List ℕ)) → i < 2 ^ 64
         → line < 2 ^ 64 → IsLine (row_object (codes "removed") n i line cells) }
@@ -42,15 +42,16 @@ pub fn law_row()
         ≡ Some (row_value (codes "added") n i line cells) }
 {}
 
-/// Law: the text written for a column that only one input has is a single line, and a JSON reader
-/// gets back its members.
+/// States that the text written for a column that only one input has is a single line, and that a
+/// JSON reader gets back the members that were written.
 pub fn law_column()
     ensures line { (side : Side) (name : List ℕ) → IsLine (column_object side name) }
     ensures read { (side : Side) (name : List ℕ) → document (column_object side name)
         ≡ Some (column_value side name) }
 {}
 
-/// Law: the text written for the counts is a single line, and a JSON reader gets back its members.
+/// States that the text written for the counts is a single line, and that a JSON reader gets back
+/// the members that were written.
 pub fn law_counts()
     ensures line { (n : Naming) (c : Comparison) (counts : List ℕ) (limit : ℕ)
         → difference_count c < 2 ^ 64 → length c.matching.left_rows.items < 2 ^ 64

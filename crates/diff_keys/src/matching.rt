@@ -56,7 +56,8 @@ fn match_few<L: ByteRows, R: ByteRows>(
 }
 
 /// Matches the rows of two tables by their keys. `left` and `right` are arrays with the key of each
-/// row.
+/// row. If several rows of a table have the same key, the first of them is matched with the first
+/// such row of the other table, the second with the second, and so on.
 ///
 /// Fails with `TooManyRows` if a table has more than 2^32 rows, and with `Memory` if an allocation
 /// fails.

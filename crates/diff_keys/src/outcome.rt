@@ -15,8 +15,8 @@ pub enum Outcome {
 }
 
 /// Returns `Same` if `same_columns` is true and `changed`, `matching.removed` and `matching.added`
-/// are empty, and else `Different`. `changed` lists the matched pairs of rows that differ.
-/// `same_columns` is true if the columns of the inputs make no difference.
+/// are empty, and else `Different`. `changed` has the indices of the matched pairs whose two rows
+/// differ. `same_columns` is true if the columns of the inputs have no difference that counts.
 pub fn outcome_of(matching: &Matching, changed: &[usize], same_columns: bool) -> Outcome
     ensures { result ≡ outcome_of matching.now changed.now same_columns }
 {

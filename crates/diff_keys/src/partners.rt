@@ -11,8 +11,8 @@ use crate::waiting::{Waiting, all_waiting, class_of};
 use polars_arrays_flat::byte_rows::ByteRows;
 use std::alloc::{AllocError, Global};
 
-/// Returns the class (`class_of`) of the key of each left row in `start..end`. `count` is the
-/// number of classes.
+/// Returns, for each left row in `start..end`, the class of its key (see `class_of`). `left` has
+/// the key of each left row, and `count` is the number of classes.
 fn classes_for<L: ByteRows>(
     alloc: Global,
     left: &L,
@@ -51,7 +51,8 @@ fn heads_of(
     Ok(rows)
 }
 
-/// Returns `row` if this row has the key `key`, and else `None`. `keys` has the key of each row.
+/// Returns `row` if the row with this number has the key `key`. Returns `None` if that row has
+/// another key, or if `row` is `None`. `keys` has the key of each row.
 #[inline(always)]
 fn row_of_key<R: ByteRows>(keys: &R, row: Option<u32>, key: &[u8]) -> Option<u32>
     requires { IfSome row (λ j. j < length (R.strings keys.now)) }
@@ -87,9 +88,10 @@ fn guesses_for<L: ByteRows, R: ByteRows>(
     Ok(guesses)
 }
 
-/// Appends the partner of each left row in `start..end`, or `None`, to `found`, and removes these
-/// partners from `waiting`. For left row `i`, `classes[i - start]` is the class of its key, and
-/// `guesses[i - start]` is a right row that is known to have the same key, or `None`.
+/// Appends to `found`, for each left row in `start..end`, its partner, or `None` if it has no
+/// partner. Removes these partners from `waiting`. For left row `i`, `classes[i - start]` is the
+/// class of its key, and `guesses[i - start]` is a right row that is known to have the same key, or
+/// `None`. `left` and `right` have the keys of the rows.
 fn push_partners<L: ByteRows, R: ByteRows>(
     found: &mut Vec<Option<u32>>,
     left: &L,
@@ -118,10 +120,10 @@ fn push_partners<L: ByteRows, R: ByteRows>(
     Ok(())
 }
 
-/// Appends the partner of each left row in `start..end`, or `None`, to `found`, and removes these
-/// partners from `waiting`. First reads, for all of these left rows, the right rows to compare
-/// with. These reads don't depend on each other, so the processor can wait for many of them at
-/// once.
+/// Appends to `found`, for each left row in `start..end`, its partner, or `None` if it has no
+/// partner. Removes these partners from `waiting`. `left` and `right` have the keys of the rows.
+/// First reads, for all of these left rows, the right rows to compare with. These reads don't
+/// depend on each other, so the processor can wait for many of them at once.
 fn push_block<L: ByteRows, R: ByteRows>(
     alloc: Global,
     found: &mut Vec<Option<u32>>,
@@ -145,8 +147,9 @@ fn push_block<L: ByteRows, R: ByteRows>(
     push_partners(found, left, start, end, right, waiting, &classes, &guesses)
 }
 
-/// Appends the partner of each left row, or `None`, to `found`, block by block, and removes these
-/// partners from `waiting`.
+/// Appends to `found`, for each left row, its partner, or `None` if it has no partner. Removes
+/// these partners from `waiting`. `left` and `right` have the keys of the rows, which are processed
+/// block by block.
 fn push_all<L: ByteRows, R: ByteRows>(
     alloc: Global,
     found: &mut Vec<Option<u32>>,

@@ -19,8 +19,8 @@ pub(crate) struct Waiting {
     pub(crate) next: Vec<Option<u32>>,
 }
 
-/// The number of classes for each row of the right table. With 4, few rows with different keys
-/// share a class.
+/// The number of classes per row of the right table. With 4, few rows with different keys share a
+/// class. One more class is added, so that there is at least one.
 const CLASSES: usize = 4;
 
 /// Returns the class of a key: its hash modulo `count`, the number of classes.

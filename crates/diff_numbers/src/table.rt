@@ -14,8 +14,8 @@ use std::alloc::Global;
 
 /// Returns the text by which each cell of `table` is compared, row by row. `numeric[c]` is `true`
 /// if the numbers of column `c` are compared by value. Fails with `WideExponent` if a number that
-/// is compared by value has an exponent of more than 30 digits, and with `Memory` if an allocation
-/// fails.
+/// is compared by value has an exponent of more than 30 digits, leading zeros not counted, and with
+/// `Memory` if an allocation fails.
 fn comparable_cells(
     alloc: Global,
     table: &Table,

@@ -72,8 +72,9 @@ fn list_array(
 
 /// Returns the indices of the pairs whose two rows have different cells, in ascending order. Pair
 /// `p` is list `left_rows[p]` of `left` (the cells of a left row) and row `right_rows[p]` of
-/// `right`. The cells of `left` have 64-bit offsets if `wide` is true, and else 32-bit offsets.
-/// `wide` must be true if the cells of `right` have 64-bit offsets. The only error is `Memory`.
+/// `right`. The lists of `left` must have `right.width` cells each. The cells of `left` have 64-bit
+/// offsets if `wide` is true, and else 32-bit offsets. `wide` must be true if the cells of `right`
+/// have 64-bit offsets. The only error is `Memory`.
 fn changed_lists(
     alloc: Global,
     left: FixedSizeListArray,

@@ -51,7 +51,7 @@ fn push_keys(out: &mut Vec<u8>, sides: &Sides, side: &Side, i: usize) -> Result<
 }
 
 /// Appends the key of row `i` of `side`: `COLUMN=CELL` for each key column. If there are no key
-/// columns, appends `row N`, where the first row is 1.
+/// columns, appends `row N`, where N is `i + 1`.
 #[tactic(auto, unfolding(crate::specs::Rows::row_text))]
 pub(crate) fn push_row(
     out: &mut Vec<u8>,

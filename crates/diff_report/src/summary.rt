@@ -58,9 +58,9 @@ impl Totals {
     }
 }
 
-/// Returns the number of differences: the sum of `changed`, the number of matched pairs that
-/// differ, and the number of left and right rows without a partner. The sum has 128 bits, so that
-/// it can't overflow.
+/// Returns the number of differences: `changed` plus the number of rows without a partner in
+/// `matching`, left and right. `changed` is the number of matched pairs that differ. The sum has
+/// 128 bits, so that it can't overflow.
 pub fn difference_count(matching: &Matching, changed: usize) -> u128
     ensures { result ≡ difference_count matching.now changed }
 {
@@ -176,7 +176,8 @@ fn push_columns(
 }
 
 /// Appends the last line of a report: the totals, and the counts by column if any row is changed.
-/// `counts` has for each column the number of changed pairs that differ in it.
+/// `names` has the names of the columns, and `counts` has for each column the number of changed
+/// pairs that differ in it.
 pub fn push_summary(
     out: &mut Vec<u8>,
     names: &BinaryArray<i64>,

@@ -86,8 +86,10 @@ fn unknown_tolerance(
     }
 }
 
-/// Returns an error for the first name in the options, keys left aside, that is not a column of
-/// either input. Returns `None` if each name is a column.
+/// Returns an error for the first name in the options that is not a column of either input. Returns
+/// `None` if each name is a column. Searches, in this order, the lists of the columns to compare,
+/// to ignore, to compare as texts, and with a tolerance. The names of the key columns are not
+/// searched.
 fn unknown_name(
     left: &BinaryArray<i64>,
     right: &BinaryArray<i64>,
@@ -147,8 +149,8 @@ fn nothing_left(
     !are_bare && (none_compared || key_alone(layout, options))
 }
 
-/// Checks that each column named in the options exists in an input, and that something remains to
-/// compare. The only error is `Choice`.
+/// Checks that each column named in the options, apart from the key columns, exists in an input,
+/// and that something remains to compare or report. The only error is `Choice`.
 pub(crate) fn test_heads(heads: &Heads, options: &Options<'_>) -> Result<(), RunError>
     ensures { MatchResult result (λ _. AreChosen options.now heads.now)
         (IsHeadsFault options.now heads.now) }

@@ -25,9 +25,9 @@ use polars_arrays_bytes::binary::BinaryArray;
 use polars_arrays_flat::byte_rows::ByteRows;
 use std::alloc::{AllocError, Global};
 
-/// Returns the error `WideExponent` about a number in the column with index `column`. `line` is the
-/// line at which the number's row begins, and `names` has the names of the columns. If the name
-/// can't be copied, returns `Memory` instead.
+/// Returns the error `WideExponent` about a number in the column with index `column` of the input
+/// on side `side`. `line` is the line at which the number's row begins, and `names` has the names
+/// of the columns. If the name can't be copied, returns `Memory` instead.
 fn wide_exponent(
     alloc: Global,
     names: &BinaryArray<i64>,
@@ -44,10 +44,11 @@ fn wide_exponent(
     }
 }
 
-/// Returns the table to compare in place of `input`: each number in a numeric column is replaced by
-/// its normal form. `numeric` has for each column whether it is numeric, and `names` has the names
-/// of the columns. Fails with `WideExponent` if such a number has an exponent of more than 30
-/// digits, and with `Memory` if an allocation fails.
+/// Returns the table to compare in place of `input`, the input on side `side`: each number in a
+/// numeric column is replaced by its normal form. `numeric` has for each column whether it is
+/// numeric, and `names` has the names of the columns. Fails with `WideExponent` if such a number
+/// has an exponent of more than 30 digits, leading zeros not counted, and with `Memory` if an
+/// allocation fails.
 fn table_by(
     alloc: Global,
     names: &BinaryArray<i64>,
@@ -169,9 +170,10 @@ fn compared_without_tolerances(
 
 /// Returns the tables to compare in place of the inputs if the options have `numbers` or
 /// `tolerances`. Otherwise returns `None`: the inputs are compared unchanged. `keys` are the key
-/// columns, as indices into `names`. Fails with `WideExponent` if a number to compare has an
-/// exponent of more than 30 digits, with `TooManyRows` if there are tolerances and a table has more
-/// than 2^32 rows, and with `Memory` if an allocation fails.
+/// columns, as indices into `names`. Fails with `WideExponent` if a number that is compared by
+/// value has an exponent of more than 30 digits, leading zeros not counted. Fails with
+/// `TooManyRows` if there are tolerances and a table has more than 2^32 rows, and with `Memory` if
+/// an allocation fails.
 #[tactic(auto, using(crate::proofs::ComparableLemmas::compared))]
 pub(crate) fn compared_by(
     alloc: Global,

@@ -32,7 +32,7 @@ use std::alloc::{AllocError, Global};
 /// The report of two inputs, and the outcome of their comparison.
 #[derive(Drop)]
 pub struct Report {
-    /// The report, as it is written.
+    /// The bytes of the report.
     pub text: Vec<u8>,
     /// `Same` if the inputs have no difference, and else `Different`.
     pub outcome: Outcome,

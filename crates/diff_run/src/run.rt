@@ -25,7 +25,8 @@ pub struct Input<'a, R> {
     pub reader: R,
 }
 
-/// Reads and compares two inputs, and returns the report. Fails with any `RunError` except `Write`.
+/// Reads and compares two inputs, and returns the report. Can fail with any `RunError` except
+/// `Write`.
 fn report_on<L: Read + Drop, R: Read + Drop>(
     alloc: Global,
     left: Input<'_, L>,
@@ -52,9 +53,9 @@ fn report_on<L: Read + Drop, R: Read + Drop>(
     report_of(alloc, &sides, &heads, files, options)
 }
 
-/// Compares two CSV inputs, writes the report to `out`, and returns the outcome. The inputs are
-/// read completely and the report is made in memory before anything is written. So something may
-/// have been written only if the error is `Write`.
+/// Compares two CSV inputs, writes the report to `out`, and returns the outcome. Can fail with any
+/// `RunError`. The inputs are read completely and the report is made in memory before anything is
+/// written. So something may have been written only if the error is `Write`.
 pub fn run<L: Read + Drop, R: Read + Drop, W: Write>(
     alloc: Global,
     left: Input<'_, L>,

@@ -148,10 +148,10 @@ fn push_unlike<L: Offset, R: Offset>(
     Ok(())
 }
 
-/// Returns the indices of the pairs of rows that differ in a byte, in ascending order. A row is
-/// `width` adjacent strings. Pair `p` is row `left_rows[p]` of `left` and row `right_rows[p]` of
-/// `right`. Two rows are the same to the byte if each string has the same length and the same bytes
-/// as the string of the other row in the same column. The only error is a failed allocation.
+/// Returns the indices of the pairs whose two rows differ in the length or in a byte of a string,
+/// in ascending order. Pair `p` is row `left_rows[p]` of `left` and row `right_rows[p]` of `right`.
+/// A row is `width` adjacent strings, and each is compared with the string of the other row in the
+/// same column. The only error is a failed allocation.
 pub(crate) fn unlike_pairs<L: Offset, R: Offset>(
     alloc: Global,
     left: &BinaryArray<L>,

@@ -90,11 +90,10 @@ impl Cells {
         }
     }
 
-    /// Returns the indices of the pairs of rows that differ in a byte, in ascending order. A row
-    /// is `width` adjacent strings. Pair `p` is row `rows[p]` of these cells and row
-    /// `other_rows[p]` of `other`. Two rows are the same to the byte if each string has the same
-    /// length and the same bytes as the string of the other row in the same column. The only error
-    /// is a failed allocation.
+    /// Returns the indices of the pairs whose two rows differ in the length or in a byte of a
+    /// string, in ascending order. Pair `p` is row `rows[p]` of these cells and row `other_rows[p]`
+    /// of `other`. A row is `width` adjacent strings, and each is compared with the string of the
+    /// other row in the same column. The only error is a failed allocation.
     pub(crate) fn unlike_pairs(
         &self,
         alloc: Global,

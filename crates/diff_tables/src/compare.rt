@@ -33,7 +33,8 @@ pub struct Comparison {
 }
 
 /// Returns the indices of the pairs whose two rows differ, in ascending order. Pair `p` is row
-/// `left_rows[p]` of `left` and row `right_rows[p]` of `right`. The only error is `Memory`.
+/// `left_rows[p]` of `left` and row `right_rows[p]` of `right`. Both tables must have the same
+/// width. The only error is `Memory`.
 fn changed_rows(
     alloc: Global,
     left: &Table,
@@ -76,8 +77,8 @@ fn places_at(alloc: Global, all: &[usize], places: &[usize]) -> Result<Vec<usize
 }
 
 /// Returns the indices of the matched pairs whose two rows differ, in ascending order. Pair `k` is
-/// row `matching.left_rows[k]` of `left` and row `matching.right_rows[k]` of `right`. The only
-/// error is `Memory`.
+/// row `matching.left_rows[k]` of `left` and row `matching.right_rows[k]` of `right`. Both tables
+/// must have the same width. The only error is `Memory`.
 fn changed_places(
     alloc: Global,
     left: &Table,
@@ -93,7 +94,7 @@ fn changed_places(
         matching.now.right_rows.items) (length matching.now.left_rows.items) changed.items)
         IsMemory }
 {
-    // Most pairs are the same to the byte. The kernel compares only the other pairs.
+    // Most pairs have two rows with equal bytes. The kernel compares only the remaining pairs.
     let places = left.unlike_pairs(alloc, &matching.left_rows, right, &matching.right_rows)?;
     let left_rows = numbers_at(alloc, &matching.left_rows, &places)?;
     let right_rows = numbers_at(alloc, &matching.right_rows, &places)?;

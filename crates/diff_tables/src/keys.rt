@@ -13,7 +13,7 @@ use polars_arrays_bytes::binary::BinaryArray;
 use std::alloc::{AllocError, Global};
 
 /// Sets `key` to the encoded key of row `i` of `table`: the row's cells in `columns`, each with an
-/// end mark (`push_escaped`). After an error, `key` may have a part of it.
+/// end mark (`push_escaped`). After an error, `key` may have only a part of the encoded key.
 fn write_key(
     key: &mut Vec<u8>,
     table: &Table,

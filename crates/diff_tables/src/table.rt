@@ -82,10 +82,10 @@ impl Table {
         self.cells.value(self.width * i + c)
     }
 
-    /// Returns the indices of the pairs of rows that differ in a byte, in ascending order. Pair `p`
-    /// is row `rows[p]` of this table and row `other_rows[p]` of `other`. Two rows are the same to
-    /// the byte if each cell has the same length and the same bytes as the cell of the other row in
-    /// the same column. The only error is a failed allocation.
+    /// Returns the indices of the pairs whose two rows differ in the length or in a byte of a cell,
+    /// in ascending order. Pair `p` is row `rows[p]` of this table and row `other_rows[p]` of
+    /// `other`. Each cell is compared with the cell of the other row in the same column. Both
+    /// tables must have the same width. The only error is a failed allocation.
     pub(crate) fn unlike_pairs(
         &self,
         alloc: Global,

@@ -1,5 +1,6 @@
-//! Applies tolerances: if a number of the right table differs from its partner's number by no more
-//! than a tolerance allows, it is replaced by the partner's number. The two then count as equal.
+//! Applies tolerances: a number of the right table is replaced by the number in the same column of
+//! its row's left partner if the two differ by no more than a tolerance allows. The two then count
+//! as equal.
 #![tactic(auto)]
 
 pub mod cells;

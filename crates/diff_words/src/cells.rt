@@ -20,8 +20,9 @@ pub fn is_null(null: &Option<Vec<u8>>, cell: &[u8]) -> bool
     }
 }
 
-/// Appends the word `null` if `cell` stands for no value (`is_null`), and else `cell` between
-/// quotes, with control characters escaped (`push_quoted`).
+/// Appends the word `null` if `cell` stands for no value, that is, if it equals the text in the
+/// parameter `null`. Otherwise, also if the parameter is `None`, appends `cell` between quotes,
+/// with quotes, backslashes and control characters escaped (`push_quoted`).
 #[tactic(auto, unfolding(crate::specs::Cells::cell_text))]
 pub fn push_cell(out: &mut Vec<u8>, null: &Option<Vec<u8>>, cell: &[u8]) -> Result<(), AllocError>
     ensures { OnOk result

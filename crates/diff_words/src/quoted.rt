@@ -7,8 +7,8 @@ ghost use Rattle.diff_words.specs.Quoted.{letter_of, quoted};
 
 use std::alloc::AllocError;
 
-/// Returns the letter of the short escape of a byte, such as `n` for a line feed. Returns `None` if
-/// the byte has no short escape.
+/// Returns the character after the backslash in the short escape of a byte, such as `n` for a line
+/// feed. Returns `None` if the byte has no short escape.
 fn letter_of(byte: u8) -> Option<u8>
     ensures { result ≡ letter_of byte }
 {

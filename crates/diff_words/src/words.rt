@@ -7,9 +7,9 @@ ghost use Rattle.diff_words.specs.Words.{is_word, is_word_byte, word_text};
 use crate::quoted::push_quoted;
 use std::alloc::AllocError;
 
-/// Returns whether a word may contain a byte. Blanks, quotes, commas, `=`, backslashes and control
-/// characters are not allowed. Nor is the byte 194: characters from U+0080 to U+00BF begin with it,
-/// and some of these are control characters.
+/// Returns whether a word may contain a byte. Blanks, double quotes, commas, `=`, backslashes and
+/// control characters are not allowed. Nor is the byte 194: characters from U+0080 to U+00BF begin
+/// with it, and some of these are control characters.
 fn is_word_byte(byte: u8) -> bool
     ensures { result ≡ is_word_byte byte }
 {
