@@ -88,7 +88,8 @@ fn push_text(
     Ok(())
 }
 
-/// Appends one line of text for each of `rows`, in aligned columns that fit the width of the sheet.
+/// Appends one line of text for each of `rows`, in aligned columns. If the width of the sheet is 40
+/// or more, no line is wider.
 #[tactic(auto, unfolding(crate::specs::Aligned::row_lines))]
 fn push_rows(
     alloc: Global,

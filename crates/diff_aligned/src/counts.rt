@@ -1,5 +1,6 @@
-//! The counts at the end of a report, and the messages about columns that only one file has.
-//! A text is collected as `words`, and `push_paragraph` breaks lines between two of these words.
+//! The counts at the end of a report, and the messages about columns that only one file has. A text
+//! is collected as a list of `words`, such as `3 changed,`. A word may contain blanks, but
+//! `push_paragraph` breaks lines only between words.
 
 ghost use Rattle.std.specs.Prelude.{◌≡◌, ◌∷◌, [], ◌++◌, codes, map, OnOk, Some, option_and_then};
 ghost use Rattle.json.specs.Find.{as_object, get};

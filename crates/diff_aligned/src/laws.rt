@@ -4,9 +4,10 @@ ghost use Rattle.diff_aligned.specs.Laws.{CutsHaveRoom, PaddedFill, ParagraphsHa
 ghost use Rattle.diff_aligned.specs.Laws.{RowsHaveRoom, TextsAreShown, WholeWhereRoom};
 
 /// States the laws of reports in aligned columns. On a terminal of 40 or more columns, no row of
-/// the table is wider than the terminal. On any terminal, no line of words is. Shown texts have no
-/// hidden characters (control characters and invisible ones). A cut text is at most as wide as its
-/// room, a padded text exactly as wide, and a text that fits its room is not cut.
+/// the table is wider than the terminal. On a terminal of any width, no line of words
+/// (`push_paragraph`) is wider than the terminal. Shown texts have no hidden characters (control
+/// characters and invisible ones). A cut text is at most as wide as its room, a padded text exactly
+/// as wide, and a text that fits its room is not cut.
 pub fn aligned_laws()
     ensures rows { RowsHaveRoom }
     ensures paragraphs { ParagraphsHaveRoom }

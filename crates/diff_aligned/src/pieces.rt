@@ -157,8 +157,9 @@ fn push_lone(
     Ok(())
 }
 
-/// Appends the line of text for a row of the table. The form and colours of the line depend on the
-/// mark of the row.
+/// Appends the line of text for a row of the table. `rooms` has the widths of the parts of the row.
+/// The form and colours of the line depend on the mark of the row. The line has colours only if
+/// `colored` is set.
 pub(crate) fn push_row(
     alloc: Global,
     out: &mut Vec<u8>,

@@ -77,8 +77,8 @@ fn push_change(
 }
 
 /// Appends a row of the table for each of `changes`. Each change is a member: the name of a column,
-/// and an object with the two values. `name` is the key of the changed row (`push_row_name`). Only
-/// the first of the appended rows has this key.
+/// and an object with the two values. `name` is the text of `push_row_name` for the changed row.
+/// Only the first of the appended rows has this text as its key.
 fn push_member_rows(
     alloc: Global,
     rows: &mut Vec<Row>,
@@ -101,8 +101,8 @@ fn push_member_rows(
 }
 
 /// Appends a row of the table for each of `changes`. The member `path` of each change is the path
-/// that differs. `name` is the key of the changed row (`push_row_name`). Only the first of the
-/// appended rows has this key.
+/// that differs. `name` is the text of `push_row_name` for the changed row. Only the first of the
+/// appended rows has this text as its key.
 fn push_item_rows(
     alloc: Global,
     rows: &mut Vec<Row>,

@@ -25,9 +25,9 @@ fn push_value(alloc: Global, out: &mut Vec<char>, value: &Value<'_>) -> Result<(
     Ok(())
 }
 
-/// Returns whether a name with this byte may be shown without quotes. Blanks, quotes, commas, `=`,
-/// backslashes and control characters need quotes. So does the byte 194: characters from U+0080 to
-/// U+00BF begin with it, and some of these are control characters.
+/// Returns whether a name that is shown without quotes may have this byte. Blanks, quotes, commas,
+/// `=`, backslashes and control characters need quotes. So does the byte 194: characters from
+/// U+0080 to U+00BF begin with it, and some of these are control characters.
 fn is_word_byte(byte: u8) -> bool
     ensures { result ≡ is_word_byte byte }
 {

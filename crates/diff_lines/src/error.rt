@@ -11,8 +11,8 @@ pub enum LineError {
     /// An allocation failed.
     #[error("out of memory")]
     Memory,
-    /// The text is not UTF-8, or a line is not JSON, nests too deep, or has no `kind` that a line
-    /// of a report can have.
+    /// The text is not UTF-8, or a line is not JSON, nests deeper than 256 levels, or has no `kind`
+    /// that a line of a report can have.
     #[error("no report of differences")]
     NoReport,
 }

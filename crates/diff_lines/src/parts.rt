@@ -1,5 +1,6 @@
-//! Looks up members of a JSON line. In contracts `HasNumbers` says that each number in a value is
-//! kept as a valid JSON number, as all values that were parsed are.
+//! Looks up members of a JSON line. If several members have the same name, the last one counts. In
+//! contracts, `HasNumbers` says that the text of each number in a value is a valid JSON number. It
+//! holds for all values that were parsed.
 
 ghost use Rattle.std.specs.Prelude.{◌≡◌, IfSome, option_and_then, option_map};
 ghost use Rattle.json.specs.Find.{as_array, as_object, get};

@@ -12,8 +12,8 @@ use diff_lines::parts::number_at;
 use json::Value;
 use std::alloc::{AllocError, Global};
 
-/// Appends the numbers of changed, removed, added and equal rows. `counts` is the JSON line of the
-/// counts.
+/// Appends a colon and the numbers of changed, removed, added and equal rows. `counts` is the JSON
+/// line of the counts.
 #[tactic(auto, unfolding(crate::specs::Counts::kinds_text))]
 fn push_kinds(out: &mut Vec<u8>, counts: &Value<'_>) -> Result<(), AllocError>
     ensures { OnOk result (out.new.items ≡ out.old.items ++ kinds_text (value_view counts.now)) }
@@ -30,7 +30,7 @@ fn push_kinds(out: &mut Vec<u8>, counts: &Value<'_>) -> Result<(), AllocError>
     Ok(())
 }
 
-/// Appends `By column:` and then `pairs`, the text that has the number of differing cells of each
+/// Appends `By column:` and then `pairs`, a text with the number of differing cells for each
 /// column. Appends nothing if `pairs` is empty.
 fn push_columns(out: &mut Vec<u8>, pairs: &[u8]) -> Result<(), AllocError>
     ensures { OnOk result (out.new.items ≡ out.old.items ++ columns_note pairs.now) }
@@ -61,8 +61,8 @@ fn push_skipped(out: &mut Vec<u8>, counts: &Value<'_>) -> Result<(), AllocError>
     Ok(())
 }
 
-/// Appends `Not shown:` and then `count`, the text of the number of differences that the report
-/// leaves out. Appends nothing if `count` is `0`.
+/// Appends `Not shown:` and then `count`, the number of differences that the report leaves out, as
+/// decimal text. Appends nothing if `count` is `0`.
 fn push_hidden(out: &mut Vec<u8>, count: &str) -> Result<(), AllocError>
     ensures { OnOk result (out.new.items ≡ out.old.items ++ hidden_note count.now) }
 {

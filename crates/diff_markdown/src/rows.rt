@@ -33,9 +33,9 @@ fn push_row_name(alloc: Global, out: &mut Vec<u8>, line: &Value<'_>) -> Result<(
     Ok(())
 }
 
-/// Appends the table row of one difference. `name` is the key of the changed row (`push_row_name`).
-/// `part` is the column or path that differs. `change` has the two values as its members `left` and
-/// `right`.
+/// Appends the table row of one difference. `name` is the text of `push_row_name` for the changed
+/// row. `part` is the column or path that differs. `change` has the two values as its members
+/// `left` and `right`.
 #[tactic(auto, unfolding(crate::specs::Rows::change_row))]
 fn push_change(
     alloc: Global,
@@ -61,7 +61,7 @@ fn push_change(
 }
 
 /// Appends a table row for each of `changes`. Each change is a member: the name of a column, and an
-/// object with the two values. `name` is the key of the changed row (`push_row_name`).
+/// object with the two values. `name` is the text of `push_row_name` for the changed row.
 fn push_member_rows(
     alloc: Global,
     out: &mut Vec<u8>,
@@ -79,7 +79,7 @@ fn push_member_rows(
 }
 
 /// Appends a table row for each of `changes`. The member `path` of each change is the path that
-/// differs. `name` is the key of the changed row (`push_row_name`).
+/// differs. `name` is the text of `push_row_name` for the changed row.
 fn push_item_rows(
     alloc: Global,
     out: &mut Vec<u8>,
@@ -116,7 +116,7 @@ pub(crate) fn push_changed(
 
 /// Appends a table row for each member of the object that `line` has as its member `changes`.
 /// Appends nothing if this member is not an object. `line` is the JSON line of a changed row, and
-/// `name` is the key of the row (`push_row_name`).
+/// `name` is the text of `push_row_name` for this row.
 fn push_changes_in_object(
     alloc: Global,
     out: &mut Vec<u8>,
@@ -135,7 +135,7 @@ fn push_changes_in_object(
 
 /// Appends a table row for each item of the array that `line` has as its member `changes`. Appends
 /// nothing if this member is not an array. `line` is the JSON line of a changed row, and `name` is
-/// the key of the row (`push_row_name`).
+/// the text of `push_row_name` for this row.
 fn push_changes_in_array(
     alloc: Global,
     out: &mut Vec<u8>,

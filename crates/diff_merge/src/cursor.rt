@@ -58,7 +58,8 @@ pub struct Cursor<'a, R> {
 }
 
 /// Reads the next row of `reader` into `row`. Returns the line at which the row begins, or `None`
-/// if there are no more rows. The error is `Csv` with this side, also if an allocation fails.
+/// if there are no more rows. Fails with `Csv` if the row can't be read. If an allocation fails,
+/// the `cause` of this error is `CsvError::Memory`. `side` is stored in the error.
 fn read_row<R: Read + Drop>(
     reader: &mut RowReader<R>,
     row: &mut Box<ByteRecord>,
@@ -105,8 +106,10 @@ fn test_order(
 }
 
 impl<'a, R: Read + Drop> Cursor<'a, R> {
-    /// Creates a cursor that reads the rows of `source`, and reads the first row ahead. Fails with
-    /// `Csv` if the row can't be read, and with `Memory` if another allocation fails.
+    /// Creates a cursor that reads the rows of `source`, and reads the first row ahead. `wanted`
+    /// has the columns to read and the options for the keys. Fails with `Csv` if the first row
+    /// can't be read, even if the reason is a failed allocation, and with `Memory` if any other
+    /// allocation fails.
     pub fn open(
         alloc: Global,
         source: Source<R>,
@@ -169,8 +172,9 @@ impl<'a, R: Read + Drop> Cursor<'a, R> {
     ///
     /// Fails with `Falls` if the key of the new row is less than that of the row before it, and
     /// with `KeyTwice` if the keys are equal but must be unique. Fails with `Csv` if the row can't
-    /// be read, and with `Memory` if another allocation fails. After an error the results of
-    /// further calls are not specified.
+    /// be read, even if the reason is a failed allocation. Fails with `Memory` if any other
+    /// allocation fails, or if the row number overflows. After an error the results of further
+    /// calls are not specified.
     pub fn advance(&mut self) -> Result<(), MergeError>
         requires { IsSome self.old.line }
         ensures on { MatchResult result

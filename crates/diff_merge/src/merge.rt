@@ -16,7 +16,7 @@ use crate::sink::Sink;
 use std::cmp::Ordering;
 use std::io::Read;
 
-/// The most steps that a merge takes. No machine reads this many rows.
+/// The greatest number of steps of a merge. No machine reads this many rows.
 const MOST_STEPS: usize = 1 << 62;
 
 /// The kind of the next step of a merge.
@@ -188,10 +188,10 @@ fn take_step<L: Read + Drop, R: Read + Drop, S: Sink>(
 /// Merges two texts from their next rows (`Cursor::row`) to their ends, and passes all these rows
 /// to the sink. The side of `left` must be `Side::Left`, and that of `right` must be `Side::Right`.
 ///
-/// Fails with `Falls` if a key is less than the key before it, with `KeyTwice` if two keys are
-/// equal but must be unique, with `Csv` if a text can't be read, and with `Memory` if another
-/// allocation fails or the sink returns an error. After an error the sink may have received some
-/// rows.
+/// Fails with `Falls` if a key is less than the key before it, and with `KeyTwice` if two keys are
+/// equal but must be unique. Fails with `Csv` if a text can't be read, even if the reason is a
+/// failed allocation. Fails with `Memory` if any other allocation fails, or if the sink returns an
+/// error. After an error the sink may have received some rows.
 pub fn merge<L: Read + Drop, R: Read + Drop, S: Sink>(
     left: &mut Cursor<'_, L>,
     right: &mut Cursor<'_, R>,

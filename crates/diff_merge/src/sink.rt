@@ -8,9 +8,9 @@ ghost use Rattle.diff_merge.specs.Rows.{IsNext, Seen, seen_of};
 use crate::row::Row;
 use std::alloc::AllocError;
 
-/// A receiver of the rows that a merge reads. It gets two partners in one call, and each row
-/// without a partner in a call of its own. The rows come in the order of their keys. An error of a
-/// call ends the merge, which then fails with `MergeError::Memory`.
+/// A receiver of the rows that a merge reads. Two partners are passed in one call, and each row
+/// without a partner in a call of its own. The rows come in the order of their keys. If a call
+/// returns an error, the merge ends and fails with `MergeError::Memory`.
 pub trait Sink {
     // Says that this receiver got these left and right rows, matched in this way.
     ghost holds: { Self → List Seen → List Seen → Matching → Type 0 };

@@ -9,13 +9,14 @@ ghost use Rattle.diff_tables.specs.Keys.{escaped, marked, row_key};
 use crate::part::Part;
 use diff_tables::string_list::StringList;
 
-/// The start value of the hash, which is the hash of an empty key.
+/// The start value of the 64-bit FNV-1a hash, which is the hash of an empty key.
 const EMPTY: u64 = 0xcbf2_9ce4_8422_2325;
 
-/// The prime by which the hash is multiplied after each byte.
+/// The prime by which the FNV-1a hash is multiplied after each byte.
 const PRIME: u64 = 0x100_0000_01b3;
 
-/// Returns the hash of some bytes and `byte` after them. `hash` is the hash of the bytes before.
+/// Returns the hash of some bytes followed by `byte`. `hash` is the hash of the bytes before
+/// `byte`.
 #[inline(always)]
 fn after_byte(hash: u64, byte: u8) -> u64
     ensures { result ≡ hash_step hash byte }
@@ -23,7 +24,8 @@ fn after_byte(hash: u64, byte: u8) -> u64
     (hash ^ u64::from(byte)).wrapping_mul(PRIME)
 }
 
-/// Returns the hash after adding one byte of a cell. A zero byte is added as the two bytes 0 and 1.
+/// Returns the hash of some bytes followed by one byte of a cell. `hash` is the hash of the bytes
+/// before the cell byte. A zero byte is hashed as the two bytes 0 and 1.
 #[inline(always)]
 fn after_marked(hash: u64, byte: u8) -> u64
     ensures { result ≡ fold hash_step hash (marked byte) }
@@ -35,7 +37,9 @@ fn after_marked(hash: u64, byte: u8) -> u64
     after
 }
 
-/// Returns the hash after adding a cell and its end mark, which is two zero bytes.
+/// Returns the hash of some bytes followed by `cell` and its end mark, which is two zero bytes.
+/// `hash` is the hash of the bytes before the cell. Each zero byte in the cell is hashed as the two
+/// bytes 0 and 1.
 #[inline(always)]
 fn after_cell(hash: u64, cell: &[u8]) -> u64
     ensures { result ≡ fold hash_step hash (escaped cell.now) }
@@ -73,7 +77,8 @@ fn row_hash<S: StringList>(cells: &S, keys: &[usize]) -> u64
 
 impl Part {
     /// Returns whether the row with the cells `cells` is in the part. `keys` are the indices of the
-    /// key cells in `cells`. Other cells do not matter.
+    /// key cells in `cells`. A key cell that the row does not have counts as empty. Other cells do
+    /// not matter.
     pub fn has_row<S: StringList>(self, cells: &S, keys: &[usize]) -> bool
         ensures { result ≡ in_part self (row_key keys.now (S.strings cells.now)) }
     {

@@ -6,7 +6,7 @@ ghost use Rattle.diff_report.specs.Pairs.{differ_at};
 
 use diff_tables::string_list::StringList;
 
-/// Returns whether two rows differ in a column.
+/// Returns whether the cells of two rows at index `column` differ. Both rows must have this cell.
 fn differ_at<L: StringList, R: StringList>(left: &L, right: &R, column: usize) -> bool
     requires left { column < length (L.strings left.now) }
     requires right { column < length (R.strings right.now) }
@@ -15,7 +15,7 @@ fn differ_at<L: StringList, R: StringList>(left: &L, right: &R, column: usize) -
     left.string(column) != right.string(column)
 }
 
-/// Returns whether two rows differ in at least one column.
+/// Returns whether two rows differ in at least one column. Both must have equally many cells.
 fn differ<L: StringList, R: StringList>(left: &L, right: &R) -> bool
     requires { length (L.strings left.now) ≡ length (R.strings right.now) }
     ensures same { result ≡ false → L.strings left.now ≡ R.strings right.now }
@@ -29,7 +29,8 @@ fn differ<L: StringList, R: StringList>(left: &L, right: &R) -> bool
     false
 }
 
-/// Adds 1 to the count of each column in which two rows differ.
+/// Adds 1 to the count of each column in which two rows differ. Both rows must have a cell for each
+/// column, and `counts` must have a count less than `usize::MAX` for each column.
 fn count_columns<L: StringList, R: StringList>(left: &L, right: &R, counts: &mut Vec<usize>)
     requires left { length (L.strings left.now) ≡ length counts.old.items }
     requires right { length (R.strings right.now) ≡ length counts.old.items }
@@ -43,7 +44,8 @@ fn count_columns<L: StringList, R: StringList>(left: &L, right: &R, counts: &mut
 }
 
 /// Adds 1 to the count of each column in which two rows differ. Returns whether they differ in at
-/// least one column. `counts` must have a count for each column.
+/// least one column. Both rows must have a cell for each column, and `counts` must have a count
+/// less than `usize::MAX` for each column.
 #[tactic(auto, using(crate::proofs::CountLemmas::none_more))]
 pub fn count_changes<L: StringList, R: StringList>(
     left: &L,

@@ -11,7 +11,7 @@ use diff_report::sides::{Side, Sides};
 use diff_words::formats::Format;
 use std::alloc::AllocError;
 
-/// Appends the line of a changed pair, left row `i` and right row `j`.
+/// Appends the line of a changed pair, left row `i` and right row `j`, both counted from 0.
 pub(crate) fn push_pair_of(
     out: &mut Vec<u8>,
     format: Format,
@@ -30,8 +30,8 @@ pub(crate) fn push_pair_of(
     }
 }
 
-/// Appends the line of row `i` of `side`, which has no partner. `alone` says whether the row is
-/// reported as removed or as added.
+/// Appends the line of row `i` of `side`, counted from 0. The row has no partner. `alone` says
+/// whether it is reported as removed or as added.
 pub(crate) fn push_row(
     out: &mut Vec<u8>,
     format: Format,

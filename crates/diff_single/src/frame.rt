@@ -10,7 +10,7 @@ pub struct Frame<'a> {
     pub names: &'a BinaryArray<i64>,
     /// The key columns, as indices into `names`.
     pub keys: &'a [usize],
-    /// The text of a cell that stands for no value. `None`: no cell does.
+    /// The text of the cells that stand for no value, or `None` if no cell does.
     pub null: Option<&'a [u8]>,
     /// `true` if the lines have colours for a terminal.
     pub colored: bool,

@@ -12,15 +12,16 @@ use thiserror::Error;
 /// failed write.
 #[derive(Debug, Drop, Error)]
 pub enum SortedError {
-    /// The options don't suit sorted inputs: there is no key, or they have numbers, tolerances or a
-    /// part.
+    /// The options don't suit sorted inputs: there is no key, or one of `numbers`, `tolerances` and
+    /// `part` is set.
     #[error("sorted inputs are compared by a key, as texts, exactly, and whole")]
     Refused,
-    /// A row has a lesser key than the row before it. `line` is the line at which the row begins.
+    /// A row of the input on this side has a lesser key than the row before it. `line` is the line
+    /// at which the row begins.
     #[error("the row at line {line} has a lesser key than the row before it")]
     Falls { side: Side, line: u64 },
-    /// Two adjacent rows have the same key, but keys must be unique. `first` and `again` are the
-    /// lines at which the rows begin.
+    /// Two adjacent rows of the input on this side have the same key, but keys must be unique.
+    /// `first` and `again` are the lines at which the rows begin.
     #[error("the rows at lines {first} and {again} have one key")]
     KeyTwice { side: Side, first: u64, again: u64 },
     /// Any other error, as in a comparison of inputs that are not sorted.

@@ -30,7 +30,7 @@ impl Lines {
         }
     }
 
-    /// Counts one more difference, which has no line. Fails if the count overflows.
+    /// Counts one more difference, without adding a line. Fails if the count overflows.
     pub(crate) fn pass(&mut self) -> Result<(), AllocError>
         ensures { OnOk result (IsPassed self.old self.new) }
     {

@@ -26,7 +26,7 @@ pub struct SortedReport<'a> {
     pub(crate) alloc: Global,
     /// The names and options that all lines share.
     pub(crate) frame: Frame<'a>,
-    /// The most differences of each kind that get a line.
+    /// The greatest number of lines for each kind of difference.
     pub(crate) limit: usize,
     /// The matched pairs that differ.
     pub(crate) changed: Lines,
@@ -63,7 +63,8 @@ fn one_more(n: usize) -> Result<usize, AllocError>
 }
 
 impl<'a> SortedReport<'a> {
-    /// Creates a report that has received no rows.
+    /// Creates a report that has received no rows. `frame` has the names and options for the lines.
+    /// `limit` is the greatest number of lines for each kind of difference.
     pub fn new(
         alloc: Global,
         frame: Frame<'a>,
@@ -132,6 +133,9 @@ impl<'a> Sink for SortedReport<'a> {
 
     ghost keeps_on = { alike_on };
 
+    /// Counts a matched pair as changed or the same. For a changed pair, also counts the columns
+    /// that differ, and adds a line unless `self.limit` lines are there already. Fails if an
+    /// allocation fails, `test_row` fails or a count overflows.
     fn pair(&mut self, left: &Row<'_>, right: &Row<'_>) -> Result<(), AllocError> {
         self.test_row(left)?;
         self.test_row(right)?;
@@ -156,6 +160,8 @@ impl<'a> Sink for SortedReport<'a> {
         Ok(())
     }
 
+    /// Counts a removed row, and adds its line unless `self.limit` lines are there already. Fails
+    /// if an allocation fails, `test_row` fails or the count overflows.
     fn removed(&mut self, row: &Row<'_>) -> Result<(), AllocError> {
         self.test_row(row)?;
         let row = row::Row {
@@ -168,6 +174,8 @@ impl<'a> Sink for SortedReport<'a> {
         Ok(())
     }
 
+    /// Counts an added row, and adds its line unless `self.limit` lines are there already. Fails if
+    /// an allocation fails, `test_row` fails or the count overflows.
     fn added(&mut self, row: &Row<'_>) -> Result<(), AllocError> {
         self.test_row(row)?;
         let row = row::Row {

@@ -36,8 +36,8 @@ use diff_single::frame;
 use std::alloc::Global;
 use std::io::{Read, Write};
 
-/// Checks that the options have a key, and have neither numbers nor tolerances nor a part. The only
-/// error is `Refused`.
+/// Checks that the options have a key, and that `numbers`, `tolerances` and `part` are `None`. The
+/// only error is `Refused`.
 fn test_options(options: &Options<'_>) -> Result<(), SortedError>
     ensures { MatchResult result (λ _. CanBeSorted options.now)
         (λ error. (left_text right_text : List ℕ)
@@ -218,10 +218,10 @@ fn report_on<L: Read + Drop, R: Read + Drop>(
 /// the same report as `run` of `diff_run`, but has only a few rows of each input in memory, besides
 /// the report and up to `options.limit` lines for each kind of difference.
 ///
-/// Fails with `Refused` if the options have no key, or have numbers, tolerances or a part. Fails
-/// with `Falls` if a row has a lesser key than the row before it, with `KeyTwice` if keys must be
-/// unique but are not, and with `Run` for all other errors. Something may have been written only if
-/// the error is a failed write.
+/// Fails with `Refused` if the options have no key, or if one of `numbers`, `tolerances` and `part`
+/// is set. Fails with `Falls` if a row has a lesser key than the row before it, with `KeyTwice` if
+/// keys must be unique but are not, and with `Run` for all other errors. Something may have been
+/// written only if the error is a failed write.
 pub fn run_sorted<L: Read + Drop, R: Read + Drop, W: Write>(
     alloc: Global,
     left: Input<'_, L>,

@@ -51,8 +51,9 @@ impl<'a> SortedReport<'a> {
         Ok(())
     }
 
-    /// Appends the report of the rows: the lines of the first differences, and the end. Fails with
-    /// `AllocError` if an allocation fails, or if there is not one count for each column name.
+    /// Appends the report of the rows: the lines of the first differences, and then the counts.
+    /// Fails with `AllocError` if an allocation fails, or if there is not one count for each column
+    /// name.
     pub fn push(&self, out: &mut Vec<u8>) -> Result<(), AllocError>
         ensures { OnOk result ((left_rows right_rows : List Seen) (s : Sides) (c : Comparison)
             → IsToldAs self.now left_rows right_rows s c

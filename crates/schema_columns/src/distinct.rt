@@ -57,8 +57,8 @@ fn count_by_state(
 }
 
 /// Returns the number of different integers in `numbers`. `ends` has the least and the greatest of
-/// them, or `None` if `numbers` is empty. It only decides how they are counted. The only error is
-/// `Memory`.
+/// them, or `None` if `numbers` is empty. `ends` decides the method of counting, but not the
+/// result. The only error is `Memory`.
 pub(crate) fn count_numbers(
     alloc: Global,
     numbers: Vec<i64>,

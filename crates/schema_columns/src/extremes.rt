@@ -14,7 +14,7 @@ use polars_compare_extremes::borrowed::BytesMinMaxKernel;
 use polars_compare_extremes::kernel::MinMaxKernel;
 use std::alloc::{AllocError, Global};
 
-/// The least and the greatest of some cells, or `None` if there are no cells.
+/// The least and the greatest of some cells. Both are `None` if there are no cells.
 #[derive(Drop)]
 pub(crate) struct Ends {
     pub(crate) least: Option<Vec<u8>>,
@@ -43,7 +43,8 @@ fn decimal_of(alloc: Global, number: i64) -> Result<Vec<u8>, AllocError>
     Ok(text)
 }
 
-/// Returns the least and the greatest of byte strings, compared byte by byte.
+/// Returns the least and the greatest of byte strings, compared byte by byte. Both are `None` if
+/// there are no cells.
 pub(crate) fn ends_of_strings(alloc: Global, cells: &BinaryArray<i64>) -> Result<Ends, AllocError>
     requires { cells.now.validity ≡ None }
     ensures { IfOk result

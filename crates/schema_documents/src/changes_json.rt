@@ -84,8 +84,9 @@ impl ChangeForm<PathSchema> for PathObjects {
     }
 }
 
-/// Appends a JSON line for each path that differs, and then a JSON object with the counts, but
-/// without the closing brace, so that the caller can append more members.
+/// Appends a JSON line for each path that only one file has or that has values of different kinds.
+/// Then appends a JSON object with the counts, but without the closing brace, so that the caller
+/// can append more members.
 fn push_path_objects(
     out: &mut Vec<u8>,
     left: &[PathSchema],
@@ -99,8 +100,9 @@ fn push_path_objects(
 }
 
 /// Appends the differences between the paths of two files of documents as JSON lines: a line for
-/// each path that differs, and a line with the counts. If `left.skip_bad` is set, the last line
-/// also has the number of skipped lines of each file.
+/// each path that only one file has or that has values of different kinds, and a line with the
+/// counts. If `left.skip_bad` is set, the last line also has the number of skipped lines of each
+/// file.
 pub fn push_document_objects(
     out: &mut Vec<u8>,
     left: &DocumentSchema,

@@ -96,8 +96,8 @@ fn push_path_lines(
 }
 
 /// Appends the differences between the paths of two files of documents as text: a line for each
-/// path that differs, a line with the counts, and a line for each file with skipped lines. `files`
-/// has the names of the files.
+/// path that only one file has or that has values of different kinds, a line with the counts, and a
+/// line for each file with skipped lines. `files` has the names of the files.
 pub fn push_document_lines(
     out: &mut Vec<u8>,
     files: Files<'_>,

@@ -6,9 +6,10 @@ ghost use Rattle.schema_documents.specs.Changes.{AreJoined, joined, kind_words, 
 use schema_paths::paths::PathSchema;
 use std::alloc::AllocError;
 
-/// Appends `word`, the name of a kind, if `count`, the number of values of this kind, is not 0.
-/// `some` says whether another name was appended before; then `between` is appended before `word`.
-/// Returns the value of `some` for the next kind.
+/// Appends `word`, the name of a kind, if `count`, the number of values of this kind, is not 0. If
+/// `some` is set, another name was appended before, and `between` is appended between the two
+/// names. Returns whether any name was appended so far, which is the value of `some` for the next
+/// kind.
 fn push_kind(
     out: &mut Vec<u8>,
     between: &[u8],

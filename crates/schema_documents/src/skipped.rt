@@ -31,8 +31,9 @@ fn first_word(count: usize) -> &'static [u8]
     }
 }
 
-/// Appends a line that says how many lines of a file were skipped, and which was the first.
-/// `numbers` has the line numbers of the skipped lines. Appends nothing if `numbers` is empty.
+/// Appends a line that says how many lines of the file named `file` were skipped, and which was the
+/// first. `numbers` has the line numbers of the skipped lines. Appends nothing if `numbers` is
+/// empty.
 #[tactic(auto, unfolding(document_words::specs::Skipped::skipped_text))]
 pub(crate) fn push_skipped(
     out: &mut Vec<u8>,

@@ -75,8 +75,8 @@ impl SchemaPart for PathSchema {
     }
 }
 
-/// Returns the schema of the path of a group. `documents` is the number of all documents. The only
-/// error is `Memory`.
+/// Returns the schema of the path of `group`. The group has counted the values at this path.
+/// `documents` is the number of all documents. The only error is `Memory`.
 fn schema_of(
     alloc: Global,
     group: Group<Kinds>,
@@ -107,8 +107,8 @@ fn schema_of(
     })
 }
 
-/// Returns the schema of the path of each group. `documents` is the number of all documents. The
-/// only error is `Memory`.
+/// Returns the schema of the path of each of `groups`, in the same order. `documents` is the number
+/// of all documents. The only error is `Memory`.
 pub(crate) fn schemas_of(
     alloc: Global,
     groups: Vec<Group<Kinds>>,

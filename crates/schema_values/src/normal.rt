@@ -16,9 +16,9 @@ use polars_arrays_bytes::binary::BinaryArray;
 use polars_arrays_flat::byte_rows::ByteRows;
 use std::alloc::Global;
 
-/// Appends the normal text of the number in `cell` to `texts`. `room` is a buffer that is
-/// overwritten. Fails with `WideExponent` if the exponent has more than 30 digits, and with
-/// `Memory` if an allocation fails.
+/// Appends the normal text of the number in `cell` to `texts`. `cell` must be a number. `room` is a
+/// buffer that is overwritten. Fails with `WideExponent` if the exponent has more than 30 digits,
+/// and with `Memory` if an allocation fails.
 fn push_normal(texts: &mut Strings, room: &mut Vec<u8>, cell: &[u8]) -> Result<(), NumberError>
     requires { is_number cell.now ≡ true }
     ensures ok { OnOk result
