@@ -21,7 +21,7 @@ use document_words::sides::DocumentSides;
 use json_changes::changes::Change;
 use std::alloc::{AllocError, Global};
 
-/// Returns the separator between two differences in a line of this format.
+/// Returns the separator between two differences in a line of the format `format`.
 fn separator_in(format: Format) -> &'static [u8]
     ensures { result.now ≡ separator_in format }
 {
@@ -31,7 +31,8 @@ fn separator_in(format: Format) -> &'static [u8]
     }
 }
 
-/// Appends `change` as text (`push_change`) or as a JSON object (`push_change_object`).
+/// Appends `change` in the format `format`: as text, with colours if `colored` is true
+/// (`push_change`), or as a JSON object, which has no colours (`push_change_object`).
 fn push_change_in(
     out: &mut Vec<u8>,
     format: Format,
@@ -48,7 +49,8 @@ fn push_change_in(
     }
 }
 
-/// Appends differences, with separators between them.
+/// Appends `changes` in the format `format`, with separators between them. Text has colours if
+/// `colored` is true.
 fn push_changes(
     out: &mut Vec<u8>,
     format: Format,
@@ -65,7 +67,8 @@ fn push_changes(
     Ok(())
 }
 
-/// Appends the differences between the documents of left row `i` and right row `j`.
+/// Appends the differences between the documents of left row `i` and right row `j` in the format
+/// `format`, with separators between them. Text has colours if `colored` is true.
 fn push_differences(
     alloc: Global,
     out: &mut Vec<u8>,

@@ -56,9 +56,10 @@ fn append_part<B: BufRead>(reader: &mut B, line: &mut Vec<u8>) -> Result<Part>
     }
 }
 
-/// Reads the next line into `line`, without its line feed. The previous contents of `line` are
-/// removed. Returns `false` if there are no more lines. Fails if a read fails, and with the kind
-/// `OutOfMemory` if an allocation fails.
+/// Reads the next line into `line`, without its line feed. The last line may end without a line
+/// feed. The previous contents of `line` are removed. Returns `false` if there are no more lines.
+/// Fails if a read fails, and with the kind `OutOfMemory` if an allocation fails. An interrupted
+/// read is tried again.
 pub(crate) fn read_line<B: BufRead>(reader: &mut B, line: &mut Vec<u8>) -> Result<bool>
     ensures { IfOk result
         (λ found. (rest : List ℕ) → B.remaining reader.old ≡ Some rest

@@ -125,8 +125,10 @@ fn keep_line(
 }
 
 /// Reads all lines from `reader`, and appends their rows to `rows`, which must be empty. `line`,
-/// `guesses` and `rooms` are memory that is reused. The errors are those of `next_line` and
-/// `keep_line`.
+/// `guesses` and `rooms` are memory that is reused.
+///
+/// A line that is not a document is recorded as skipped if `reading` allows it; otherwise fails
+/// with `Line`. Fails with `Read` if the reader fails, and with `Memory` if an allocation fails.
 fn read_lines<R: Read + Drop>(
     alloc: Global,
     reader: &mut BufReader<R>,
@@ -170,8 +172,11 @@ fn read_lines<R: Read + Drop>(
     Err(ReadError::Memory)
 }
 
-/// Reads all lines from `reader`, and returns their rows and the numbers of the skipped lines. The
-/// errors are those of `read_lines`.
+/// Reads all lines from `reader`, and returns their rows and the numbers of the skipped lines. Rows
+/// of most lines that `known` has are copied, without parsing these lines.
+///
+/// Fails with `Line` if a line is not a document and lines may not be skipped, with `Read` if the
+/// reader fails, and with `Memory` if an allocation fails.
 fn read_rows<R: Read + Drop>(
     alloc: Global,
     mut reader: BufReader<R>,
@@ -244,8 +249,11 @@ fn buffered<R: Read + Drop>(alloc: Global, reader: R) -> Result<BufReader<R>, Re
     }
 }
 
-/// Reads the documents of an input as `read_documents` does. The rows of most known lines are
-/// copied, without parsing these lines again.
+/// Reads the documents of an input with a document on each line. The rows of most lines that
+/// `known` has are copied, without parsing these lines.
+///
+/// Fails with `Line` if a line is not a document and lines may not be skipped, with `Read` if the
+/// reader fails, and with `Memory` if an allocation fails.
 fn read_unknown<R: Read + Drop>(
     alloc: Global,
     reader: R,
@@ -297,8 +305,12 @@ pub fn read_documents<R: Read + Drop>(
     Ok(documents)
 }
 
-/// Reads documents as `read_documents` does. Most lines that equal the line of a row of `table` are
-/// not parsed again: the row is copied. `table` must have been read with the same keys and options.
+/// Reads the documents of an input with a document on each line. The result is that of
+/// `read_documents`, but most lines that equal the line of a row of `table` are not parsed: the row
+/// is copied. `table` must have been read with the same `keys` and the same `reading`.
+///
+/// Fails with `Line` if a line is not a document and lines may not be skipped, with `Read` if the
+/// reader fails, and with `Memory` if an allocation fails.
 pub fn read_documents_beside<R: Read + Drop>(
     alloc: Global,
     reader: R,

@@ -68,10 +68,13 @@ fn parsed<'a>(alloc: Global, line: &'a [u8], scratch: &'a mut Scratch) -> Result
     }
 }
 
-/// Parses a line as a JSON object. Fails with the fault `NoObject` if the line is another JSON
-/// value, with the fault `WideExponent` if the exponent of a number has more than 30 digits, not
-/// counting leading zeros, and with the errors of `parsed`. `room` is memory that may be
-/// overwritten.
+/// Parses a line as a JSON object. `room` is memory that may be overwritten.
+///
+/// Fails with the fault `Invalid` if the line is not UTF-8 or not JSON or nests too deeply, with
+/// the fault `RepeatedName` if an object has two members with the same name, with the fault
+/// `NoObject` if the line is another JSON value, and with the fault `WideExponent` if the exponent
+/// of a number has more than 30 digits, not counting leading zeros. Fails with `Memory` if an
+/// allocation fails.
 pub(crate) fn object_of<'a>(
     alloc: Global,
     line: &'a [u8],

@@ -25,8 +25,9 @@ pub(crate) struct Found {
     pub(crate) changed: Vec<usize>,
 }
 
-/// Matches the documents of two inputs by their keys, or without keys by their order. Lists the
-/// matched pairs whose lines differ, even if the difference is not to be reported.
+/// Matches the documents of two inputs by their keys, or without keys by their order. Returns the
+/// matching, and the indices of the matched pairs whose lines differ. These include pairs whose
+/// difference is not to be reported.
 ///
 /// Fails with `KeyTwice` if `options.unique` is true and two documents of an input have the same
 /// key, with `TooManyRows` if an input has more than 2^32 documents, and with `Memory` if an
@@ -53,7 +54,11 @@ fn compared(
 }
 
 /// Finds the matched documents that have a difference to report, and the documents without a
-/// partner. The errors are those of `compared`.
+/// partner.
+///
+/// Fails with `KeyTwice` if `options.unique` is true and two documents of an input have the same
+/// key, with `TooManyRows` if an input has more than 2^32 documents, and with `Memory` if an
+/// allocation fails.
 pub(crate) fn found_on(
     alloc: Global,
     sides: &DocumentSides<'_>,

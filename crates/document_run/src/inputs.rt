@@ -60,7 +60,9 @@ pub(crate) fn read_side<R: Read + Drop>(
 }
 
 /// Reads the documents of the right input. `left` has the documents of the left input. Most lines
-/// that equal a line of the left input are not parsed again. The errors are those of `read_side`.
+/// that equal a line of the left input are not parsed again. If `read_documents_beside` fails, the
+/// error is `Read` with the right side. If the name of the input can't be copied, the error is
+/// `Memory`.
 pub(crate) fn read_right<R: Read + Drop>(
     alloc: Global,
     input: Input<'_, R>,

@@ -42,8 +42,11 @@ fn text_of(
     Ok(text)
 }
 
-/// Compares the documents of two inputs, and returns the report and the outcome. The errors are
-/// those of `found_on`.
+/// Compares the documents of two inputs, and returns the report and the outcome.
+///
+/// Fails with `KeyTwice` if `options.unique` is true and two documents of an input have the same
+/// key, with `TooManyRows` if an input has more than 2^32 documents, and with `Memory` if an
+/// allocation fails.
 pub(crate) fn report_of(
     alloc: Global,
     sides: &DocumentSides<'_>,

@@ -14,8 +14,8 @@ use diff_run::run::Input;
 use std::alloc::Global;
 use std::io::{Read, Write};
 
-/// Reads and compares two inputs, and returns the report and the outcome. The errors are those of
-/// `sides_of` and `report_of`.
+/// Reads and compares two inputs, and returns the report and the outcome. Fails with any error of
+/// `DocumentError` but `Write`, since nothing is written.
 fn report_on<L: Read + Drop, R: Read + Drop>(
     alloc: Global,
     left: Input<'_, L>,
@@ -37,8 +37,8 @@ fn report_on<L: Read + Drop, R: Read + Drop>(
 }
 
 /// Compares two inputs of documents, writes the report to `out`, and returns the outcome. The
-/// inputs are read completely, and the report is made in memory, before anything is written. So
-/// after any error but `Write` nothing was written.
+/// inputs are read completely, and the report is made in memory, before anything is written. Fails
+/// with `Write` if a write fails. After any other error of `DocumentError` nothing was written.
 pub fn run_documents<L: Read + Drop, R: Read + Drop, W: Write>(
     alloc: Global,
     left: Input<'_, L>,

@@ -16,7 +16,8 @@ fn none_kept(read: &ReadSide) -> bool
 }
 
 /// Checks that not all lines of an input were skipped, and fails with `AllSkipped` if they were.
-/// Checks nothing if `options.reading` has a part, since a part may have no documents.
+/// Checks nothing if `options.reading` has a part, since a part may have no documents. `side` is
+/// the side of the input, for the error.
 pub(crate) fn test_kept(
     read: &ReadSide,
     options: &DocumentOptions<'_>,

@@ -42,7 +42,8 @@ fn test_side(
 }
 
 /// Checks on each side that no two documents have the same key, if `options.unique` is true.
-/// `columns` are the key columns. The errors are those of `test_side`.
+/// `columns` are the key columns. Fails with `KeyTwice` if two documents of a side have the same
+/// key, and with `Memory` if an allocation fails.
 pub(crate) fn test_keys(
     alloc: Global,
     sides: &DocumentSides<'_>,

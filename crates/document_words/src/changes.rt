@@ -10,7 +10,7 @@ use diff_words::colors::{Color, push_color};
 use json_plain::plain::push_plain_json;
 use std::alloc::AllocError;
 
-/// Appends `part`, the JSON text of a value, without control characters. Appends `missing` if
+/// Appends `part`, the JSON text of a value, with control characters escaped. Appends `missing` if
 /// `part` is `None`.
 #[tactic(auto, unfolding(crate::specs::Changes::part_text))]
 fn push_part(out: &mut Vec<u8>, part: &Option<Vec<u8>>) -> Result<(), AllocError>
@@ -24,8 +24,9 @@ fn push_part(out: &mut Vec<u8>, part: &Option<Vec<u8>>) -> Result<(), AllocError
     Ok(())
 }
 
-/// Appends a value as `push_part` does. If `colored` is true, switches to `color` before the value,
-/// and back to the plain colour after it.
+/// Appends `part`, the JSON text of a value, with control characters escaped, or `missing` if
+/// `part` is `None`. If `colored` is true, switches to `color` before this text, and back to the
+/// plain colour after it.
 #[tactic(auto, unfolding(diff_words::specs::Colors::painted))]
 fn push_painted_part(
     out: &mut Vec<u8>,
@@ -43,8 +44,9 @@ fn push_painted_part(
     Ok(())
 }
 
-/// Appends a difference as text: `PATH LEFT -> RIGHT`. A value that is `None` is written as
-/// `missing`. If `colored` is true, the left value is red and the right value is green.
+/// Appends a difference as text: `PATH LEFT -> RIGHT`. `left` and `right` are the JSON texts of the
+/// two values. A value that is `None` is written as `missing`. If `colored` is true, the left value
+/// is red and the right value is green.
 #[tactic(auto, unfolding(crate::specs::Changes::change_text))]
 pub fn push_change(
     out: &mut Vec<u8>,
@@ -87,8 +89,8 @@ fn push_part_member(
     Ok(())
 }
 
-/// Appends a difference as a JSON object with the members `path`, `left` and `right`. A value that
-/// is `None` has no member.
+/// Appends a difference as a JSON object with the members `path`, `left` and `right`. The arguments
+/// `left` and `right` are the JSON texts of the two values. A value that is `None` has no member.
 #[tactic(auto, unfolding(crate::specs::Changes::change_object))]
 pub fn push_change_object(
     out: &mut Vec<u8>,

@@ -17,8 +17,8 @@ use diff_words::formats::Format;
 use diff_words::words::push_word;
 use std::alloc::AllocError;
 
-/// Appends the text line of the document in row `i` of `side`, which has no partner: the mark, the
-/// key, the name of the file and the line number. Appends no colours and no line feed.
+/// Appends the text line of the document in row `i` of `side`, which has no partner: the byte
+/// `mark`, the key, the name of the file and the line number. Appends no colours and no line feed.
 #[tactic(auto, unfolding(crate::specs::Lines::alone_text))]
 fn push_alone(
     out: &mut Vec<u8>,

@@ -24,7 +24,7 @@ struct ShortTens {
 }
 
 /// Returns the power of ten of a numeral, if the numeral is to be written without an exponent.
-/// Returns `None` if it has a fraction, if it has no digits, or if its exponent is above 20 or
+/// Returns `None` if the numeral has a fraction, has no digits, or has an exponent above 20 or
 /// below -20.
 fn short_tens(numeral: &Numeral<'_>) -> Option<ShortTens>
     ensures { MatchOption result (is_short numeral.now ≡ false)
@@ -104,8 +104,9 @@ fn push_plain_digits(out: &mut Vec<u8>, digits: &[u8], tens: ShortTens) -> Resul
 }
 
 /// Appends the value of a key. `text` is the normal text of the value. A number is written without
-/// an exponent, unless the exponent in `text` is above 20 or below -20: `12e2` becomes `1200`, and
-/// `15e-1` becomes `1.5`. Any other value is written as JSON without control characters.
+/// an exponent: `12e2` becomes `1200`, and `15e-1` becomes `1.5`. A number whose exponent in `text`
+/// is above 20 or below -20 is written as `text`. Any other value is written as `text` with control
+/// characters escaped.
 #[tactic(auto, unfolding(crate::specs::Numbers::value_text))]
 pub fn push_value(out: &mut Vec<u8>, text: &[u8]) -> Result<(), AllocError>
     ensures { OnOk result (out.new.items ≡ out.old.items ++ value_text text.now) }

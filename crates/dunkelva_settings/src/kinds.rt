@@ -58,10 +58,10 @@ fn names_table(name: &str) -> bool {
     has_extension(name, ".csv") || has_extension(name, ".tsv")
 }
 
-/// Checks the file `other` if it is to be compared with JSON documents: the name `documents` says
-/// that its file has documents, and the name `other` does not. Fails if the file `other` begins
-/// like a known format that is not UTF-8 text, such as gzip, or is a CSV file by its name. Without
-/// a check, `other` is accepted and not read.
+/// Checks the file named `other`, which is to be compared with the file named `documents`. Fails if
+/// `other` begins like a known format that is not UTF-8 text, such as gzip, or is a CSV file by its
+/// name. Checks nothing, and reads no file, unless the name `documents` says that the file has JSON
+/// documents and the name `other` does not.
 fn refuse_beside(rt: &HostRuntime, documents: &str, other: &str) -> Result<()> {
     if !names_documents(documents) || names_documents(other) {
         return Ok(());

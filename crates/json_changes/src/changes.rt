@@ -15,12 +15,13 @@ use json::Value;
 use json_decimals::error::NumberError;
 use std::alloc::Global;
 
-/// Returns the differences between two values that `rules` report, each as text. For example,
-/// `{"id": 1}` and `{"id": 2}` differ at the path `id`, in the texts `1` and `2`.
+/// Returns the differences between `left` and `right` that are reported under `rules`, each as
+/// text. For example, `{"id": 1}` and `{"id": 2}` differ at the path `id`, in the texts `1` and
+/// `2`.
 ///
 /// Fails with `WideExponent` only if the exponent of a number has more than 30 digits, not counting
-/// leading zeros. That may be a number whose difference is not reported. Fails with `Memory` if an
-/// allocation fails.
+/// leading zeros. This can happen even if no difference of the number is to be reported. Fails with
+/// `Memory` if an allocation fails.
 pub fn changes_under(
     alloc: Global,
     left: &Value<'_>,
@@ -44,7 +45,8 @@ pub fn changes_under(
 /// Returns whether no difference between two values is reported under `rules`.
 ///
 /// Fails with `WideExponent` only if the exponent of a number has more than 30 digits, not counting
-/// leading zeros. Fails with `Memory` if an allocation fails.
+/// leading zeros. This can happen even if no difference of the number is to be reported. Fails with
+/// `Memory` if an allocation fails.
 pub fn are_same_under(
     alloc: Global,
     left: &Value<'_>,

@@ -1,9 +1,9 @@
 //! The comparison of two JSON values, part by part.
 //!
-//! The functions fail with `Memory` or `AllocError` if an allocation fails. Those with a
-//! `NumberError` fail with `WideExponent` if two numbers with different texts are compared and the
-//! exponent of one has more than 30 digits, not counting leading zeros. After an error some changes
-//! may be appended already, and `trail` may be longer. On success `trail` is unchanged.
+//! The functions fail with `Memory` or `AllocError` if an allocation fails. Functions whose error
+//! is `NumberError` also fail with `WideExponent` if two numbers with different texts are compared
+//! and the exponent of one has more than 30 digits, not counting leading zeros. After an error some
+//! changes may be appended already, and `trail` may be longer. On success `trail` is unchanged.
 
 ghost use Rattle.std.specs.Prelude.{◌≡◌, ◌++◌, IfErr, IfSome, MatchOption, OnOk, drop, map};
 ghost use Rattle.json.specs.Json.{array, object};

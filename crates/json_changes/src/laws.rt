@@ -7,10 +7,11 @@ ghost use Rattle.json_changes.specs.Laws.{OnlyNumbersTolerated, PathsLead, Paths
 ghost use Rattle.json_changes.specs.Laws.{ToldAreDifferences, TolerancesAddNone};
 
 /// States the laws of differences between two values whose objects have no name twice. There is no
-/// difference if and only if the values are equal. The path of a difference leads to its part in
-/// each value. The two parts are not equal, and are neither two arrays nor two objects. If the
-/// parts at a path are not equal, there is a difference at the path, above it or below it. No path
-/// of a difference begins with the path of another difference.
+/// difference if and only if the values are equal. The path of a difference leads in each value to
+/// the part that differs, or to no part if the difference says that the part is missing. The two
+/// parts are not equal, and are neither two arrays nor two objects. If the parts at a path are not
+/// equal, there is a difference at the path, above it or below it. No path of a difference begins
+/// with the path of another difference.
 pub fn change_laws()
     ensures none_where_same { NoneWhereSame }
     ensures paths_lead { PathsLead }

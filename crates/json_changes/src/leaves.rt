@@ -40,8 +40,9 @@ fn are_same_numbers(alloc: Global, left: &str, right: &str) -> Result<bool, Numb
 }
 
 /// Returns whether two values are equal. Returns `false` if one of them is an array or an object,
-/// since `compare` handles two arrays and two objects. For two numbers, fails like
-/// `are_same_numbers`.
+/// since `compare` handles two arrays and two objects. For two numbers with different texts, fails
+/// with `WideExponent` if an exponent has more than 30 digits, not counting leading zeros, and with
+/// `Memory` if an allocation fails.
 fn are_same(alloc: Global, left: &Value<'_>, right: &Value<'_>) -> Result<bool, NumberError>
     ensures same { IfOk result
         (λ b. b ≡ is_same_leaf (value_view left.now) (value_view right.now)) }
@@ -59,8 +60,11 @@ fn are_same(alloc: Global, left: &Value<'_>, right: &Value<'_>) -> Result<bool, 
 }
 
 /// Appends the change between `left` and `right`, the values at the path `trail`, if they differ
-/// and the rules report it. The two values are not both arrays or both objects. Fails like
-/// `are_same_numbers`; no change is then appended.
+/// and the rules report it. The two values are not both arrays or both objects.
+///
+/// Fails with `WideExponent` if the values are numbers with different texts and an exponent has
+/// more than 30 digits, not counting leading zeros. Fails with `Memory` if an allocation fails.
+/// After an error no change is appended.
 pub(crate) fn compare_leaves(
     alloc: Global,
     rules: &Rules,

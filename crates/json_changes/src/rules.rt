@@ -65,8 +65,9 @@ fn has_named(patterns: &[Pattern], path: &[Step]) -> bool
     pattern.leads_inside(path) || has_named(rest, path)
 }
 
-/// Returns whether the patterns of `only` select the part at a path: they name it, a part that
-/// contains it, or a part inside it. An empty list selects all parts.
+/// Returns whether `patterns`, the list `Rules::only`, selects the part at a path: one of the
+/// patterns names this part, a part that contains it, or a part inside it. An empty list selects
+/// all parts.
 fn is_asked_for(patterns: &[Pattern], path: &[Step]) -> bool
     ensures { result ≡ is_asked_for (map pattern_view patterns.now) (trail_view path.now) }
 {

@@ -43,9 +43,10 @@ fn push_sign(out: &mut Vec<u8>, negative: bool) -> Result<(), AllocError>
     Ok(())
 }
 
-/// Appends the normal text of a number: its digits without zeros at either end, and an exponent.
-/// For example, 12 is `12`, 1200 is `12e2`, 1.50 is `15e-1`, and -0.0 is `0`. If the text is not a
-/// number, the longest number at its beginning is used, or else 0.
+/// Appends the normal text of the number `text`: a minus sign if the number is negative, its digits
+/// without zeros at either end, and an exponent unless the exponent is 0. For example, 12 is `12`,
+/// 1200 is `12e2`, and -1.50 is `-15e-1`. The text of zero is `0`, even for -0.0 and 0e5. If `text`
+/// is not a number, the longest number at its beginning is used, or else 0.
 ///
 /// Fails with `WideExponent` if the exponent has more than 30 digits, not counting leading zeros,
 /// even if the number is 0; `out` is then unchanged. Fails with `Memory` if an allocation fails;

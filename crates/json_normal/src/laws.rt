@@ -7,9 +7,9 @@ ghost use Rattle.json_normal.specs.Laws.{NumbersAreReadWhole, TextReadsBack};
 /// States the laws of normal forms of values whose objects have no name twice. In the normal form
 /// of a value, members are sorted by name, and each number has its normal text. Two values are
 /// equal if and only if they have the same normal form, and if and only if they have the same
-/// normal text. The normal text of a value of at most `max_depth` levels is JSON of the value's
-/// normal form. The members of an object may be in any order, and each number is read from its
-/// whole text.
+/// normal text. If a value has at most `max_depth` levels, the most that the `json` crate parses,
+/// its normal text parses as its normal form. The order of an object's members does not change its
+/// normal form. The value of a number depends on its whole text.
 pub fn normal_laws()
     ensures members_in_any_order { MembersInAnyOrder }
     ensures normal_forms_tell { NormalFormsTell }

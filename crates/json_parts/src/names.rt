@@ -53,8 +53,9 @@ fn push_step(alloc: Global, path: &mut Vec<u8>, key: &str) -> Result<(), AllocEr
     Ok(())
 }
 
-/// Appends to a path the step that leads to the member named `key`, such as `.key`. The contract
-/// also states that the text before the step is unchanged.
+/// Appends to a path the step that leads to the member named `key`: `.key`, or `."a b"` if the name
+/// needs quotes. At the beginning of a path a name without quotes has no dot. The contract also
+/// states that the text before the step is unchanged.
 pub(crate) fn push_name(alloc: Global, path: &mut Vec<u8>, key: &str) -> Result<(), AllocError>
     ensures path { OnOk result
         (path.new.items ≡ path.old.items ++ name_text path.old.items key.now) }
@@ -64,7 +65,8 @@ pub(crate) fn push_name(alloc: Global, path: &mut Vec<u8>, key: &str) -> Result<
     Ok(())
 }
 
-/// Appends the step to any item of an array, `[]`.
+/// Appends to a path the step to any item of an array, `[]`. The contract also states that the text
+/// before the step is unchanged.
 pub(crate) fn push_any_item(path: &mut Vec<u8>) -> Result<(), AllocError>
     ensures path { OnOk result (path.new.items ≡ item_path path.old.items) }
     ensures front { OnOk result (take (length path.old.items) path.new.items ≡ path.old.items) }

@@ -189,7 +189,7 @@ fn step_at(alloc: Global, text: &str, start: usize) -> Result<Found, PathError>
 }
 
 /// Parses a path. Fails with `Invalid` if the text is not a path, for example because it has the
-/// step `[]`. Fails with `Memory` if an allocation fails.
+/// step `[]`, or if an index is 2^64 or more. Fails with `Memory` if an allocation fails.
 pub fn parse_path(alloc: Global, text: &str) -> Result<Path, PathError>
     ensures read { IfOk result (λ path. IsPathText text.now (path_view path)) }
     ensures invalid { IfErr result (λ e. IsInvalid e → IsNoPath text.now) }
@@ -210,8 +210,8 @@ pub fn parse_path(alloc: Global, text: &str) -> Result<Path, PathError>
     Ok(Path { steps })
 }
 
-/// Parses a pattern. Fails with `Invalid` if the text is not a pattern, and with `Memory` if an
-/// allocation fails.
+/// Parses a pattern. Fails with `Invalid` if the text is not a pattern or if an index is 2^64 or
+/// more, and with `Memory` if an allocation fails.
 pub fn parse_pattern(alloc: Global, text: &str) -> Result<Pattern, PathError>
     ensures read { IfOk result (λ pattern. IsPatternText text.now (pattern_view pattern)) }
     ensures invalid { IfErr result (λ e. IsInvalid e → IsNoPattern text.now) }

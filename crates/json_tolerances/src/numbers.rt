@@ -40,7 +40,8 @@ impl<'a> Model for Number<'a> {
 
 impl<'a> Number<'a> {
     /// Parses a number, or returns `None` if its exponent has more than 30 digits, not counting
-    /// leading zeros.
+    /// leading zeros. If the text is not a number, the longest number at its beginning is used, or
+    /// else 0.
     #[tactic(auto, unfolding(json_decimals::specs::Decimals::decimal_of))]
     pub(crate) fn read(text: &'a str) -> Option<Number<'a>>
         ensures number { MatchOption result (HasWideExponent text.now)
