@@ -72,8 +72,8 @@ fn take_columns(
     Ok(columns)
 }
 
-/// Pops a name from the stack `names` for each column. Returns the fields of the columns: their
-/// names and types. The only error is `Memory`.
+/// Pops as many names from the stack `names` as there are columns, the topmost for the first
+/// column. Returns a field with the name and the type of each column. The only error is `Memory`.
 fn take_fields(
     alloc: Global,
     columns: &[AnyArray],
@@ -98,8 +98,9 @@ fn take_fields(
     Ok(fields)
 }
 
-/// Pops `count` child arrays from `stack`, and their names from `names`. Returns them with their
-/// types. Fails with `Parts` if `stack` has fewer arrays, and with `Memory` if an allocation fails.
+/// Pops `count` child arrays from `stack`, and as many names from `names`. Returns the arrays, the
+/// topmost first, with their names and types. Fails with `Parts` if `stack` has fewer arrays, and
+/// with `Memory` if an allocation fails.
 fn take_inside(
     alloc: Global,
     count: usize,
@@ -132,7 +133,8 @@ fn take_shape(shapes: &mut Vec<Shape>) -> Result<Shape, Refused>
 }
 
 /// Pops a shape from `shapes`, `count` child arrays from `stack`, and their names from `names`.
-/// Returns the array that is built of them. Fails with `Parts` if they make no array, and with
+/// Returns the array that has this shape and these child arrays. Fails with `Parts` if there is no
+/// shape, if `stack` has fewer arrays, or if the child arrays do not fit the shape. Fails with
 /// `Memory` if an allocation fails.
 fn filled(
     alloc: Global,
@@ -158,8 +160,9 @@ fn filled(
     Ok(array)
 }
 
-/// Pops the last shape and the last `count` arrays of `stack`, which are its children. Builds the
-/// array of this shape from them, and pushes it onto `stack`. Fails as `filled` does.
+/// Pops a shape from `shapes`, `count` child arrays from `stack`, and their names from `names`.
+/// Pushes the array that has this shape and these child arrays onto `stack`. Fails as `filled`
+/// does.
 fn step(
     alloc: Global,
     count: usize,
@@ -183,7 +186,8 @@ fn step(
     Ok(())
 }
 
-/// Appends the shape of a part to `shapes`. Fails as `shape_of` does.
+/// Appends the shape of a part to `shapes`. Fails with `Parts` if the part makes no array, whatever
+/// its child arrays are, and with `Memory` if an allocation fails.
 fn put_shape(alloc: Global, part: &Part<'_>, shapes: &mut Vec<Shape>) -> Result<(), Refused>
     ensures put { OnOk result
         ((ps : List Part) → AllFit ps shapes.old.items
@@ -195,8 +199,8 @@ fn put_shape(alloc: Global, part: &Part<'_>, shapes: &mut Vec<Shape>) -> Result<
     Ok(())
 }
 
-/// Returns the shape of each part, in order. Fails with `Parts` if a part makes no array, and with
-/// `Memory` if an allocation fails.
+/// Returns the shape of each part, in order. Fails with `Parts` if one of the parts makes no array,
+/// whatever its child arrays are, and with `Memory` if an allocation fails.
 fn shapes_of(alloc: Global, parts: &[Part<'_>]) -> Result<Vec<Shape>, Refused>
     ensures fit { IfOk result (λ shapes. AllFit parts.now shapes.items) }
     ensures refused { IfErr result (IsHonest (AllGood parts.now)) }
@@ -211,9 +215,9 @@ fn shapes_of(alloc: Global, parts: &[Part<'_>]) -> Result<Vec<Shape>, Refused>
 /// Builds the array that parts in pre-order describe. The array copies all data, so it doesn't
 /// borrow from the parts.
 ///
-/// Fails with `Parts` if and only if the parts make no array, and else with `Memory` if an
-/// allocation fails. Every text between two offsets has to be UTF-8, also under a null. The keys
-/// and views of masked rows may be arbitrary.
+/// Fails with `Parts` only if the parts make no array, and with `Memory` if an allocation fails. A
+/// text that is given by offsets has to be UTF-8 even in a null row. The keys and views of null
+/// rows may be arbitrary.
 pub fn build(alloc: Global, parts: &[Part<'_>]) -> Result<AnyArray, Refused>
     ensures stands { IfOk result (λ a. Stands a (rows_of_parts parts.now)) }
     ensures good { IfOk result (λ _. AreGoodParts parts.now) }

@@ -46,9 +46,9 @@ pub fn only_one(columns: Vec<AnyArray>) -> Result<AnyArray, Refused>
     }
 }
 
-/// Builds a list array with the child array `items`. Fails with `Parts` if an offset is greater
-/// than the number of items, or the offsets or the validity don't fit, and with `Memory` if an
-/// allocation fails.
+/// Builds a list array with the child array `items`. Fails with `Parts` if there is no offset, if
+/// an offset is less than the one before it or greater than the number of items, or if `validity`
+/// does not have one bit for each list. Fails with `Memory` if an allocation fails.
 fn lists(
     alloc: Global,
     offsets: ListOffsets,
@@ -65,9 +65,9 @@ fn lists(
     Ok(AnyArray::List(array))
 }
 
-/// Builds an array of lists of `size.width` items each, with the child array `items`. Fails with
-/// `Parts` if the number of items or the validity doesn't fit, and with `Memory` if an allocation
-/// fails.
+/// Builds an array of `size.rows` lists of `size.width` items each, with the child array `items`.
+/// Fails with `Parts` if the number of items is not `size.width * size.rows`, or if `validity` does
+/// not have one bit for each list. Fails with `Memory` if an allocation fails.
 fn fixed_lists(
     alloc: Global,
     size: Size,
@@ -84,8 +84,8 @@ fn fixed_lists(
     Ok(AnyArray::FixedSizeList(array))
 }
 
-/// Builds a dictionary array with the entries `items`. Fails with `Parts` if a key of a present row
-/// is not the index of an entry, and with `Memory` if an allocation fails.
+/// Builds a dictionary array with the keys `keys` and the entries `items`. Fails with `Parts` if
+/// the key of a present row is not the index of an entry, and with `Memory` if an allocation fails.
 fn entries(alloc: Global, keys: DictKeys, items: AnyArray) -> Result<AnyArray, Refused>
     requires { IsGood items }
     ensures made { IfOk result (FillsOne (Entries keys) items) }
@@ -97,8 +97,8 @@ fn entries(alloc: Global, keys: DictKeys, items: AnyArray) -> Result<AnyArray, R
     Ok(AnyArray::Dictionary(array))
 }
 
-/// Builds a struct array with `rows` rows and the child arrays `inside`. Fails with `Parts` if a
-/// child array does not have `rows` rows, or the validity does not have one bit for each row.
+/// Builds a struct array with `rows` rows and the child arrays `inside`. The only error is `Parts`,
+/// if a child array does not have `rows` rows, or `validity` does not have one bit for each row.
 fn structs(rows: usize, validity: Option<Bitmap>, inside: Inside) -> Result<AnyArray, Refused>
     requires good { All IsGood inside.columns.items }
     requires typed { AreTyped inside.fields.items inside.columns.items }
@@ -163,9 +163,9 @@ fn entered(alloc: Global, keys: DictKeys, inside: Inside) -> Result<AnyArray, Re
     Ok(array)
 }
 
-/// Builds the array of a shape and of its child arrays. A leaf is returned unchanged, and its
-/// children are ignored. Fails with `Parts` if the shape and the children make no array, and with
-/// `Memory` if an allocation fails.
+/// Builds the array that has the shape `shape` and the child arrays `inside`. If the shape is a
+/// leaf, returns its array unchanged, and ignores the child arrays. Fails with `Parts` if the child
+/// arrays do not fit the shape, and with `Memory` if an allocation fails.
 pub fn fill(alloc: Global, shape: Shape, inside: Inside) -> Result<AnyArray, Refused>
     requires columns { All IsGood inside.columns.items }
     requires typed { AreTyped inside.fields.items inside.columns.items }

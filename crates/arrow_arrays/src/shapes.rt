@@ -67,8 +67,9 @@ pub enum Shape {
 }
 
 /// Returns the shape of a part that is a list array with the offsets `offsets`. Fails with `Parts`
-/// if the offsets don't fit the rows and the base of the part, or if there are fewer validity bits
-/// than rows. Fails with `Memory` if an allocation fails.
+/// if there isn't one offset more than rows, if an offset is less than `part.base`, or if there are
+/// fewer validity bits than rows. Fails with `Memory` if an allocation fails. Offsets that decrease
+/// or lie past the items are found by `fill`.
 fn lists<O: LentOffset>(alloc: Global, part: &Part<'_>, offsets: &[O]) -> Result<Shape, Refused>
     ensures made { IfOk result
         (FitsLists (places_from part.now.base O.value offsets.now) part.now) }
@@ -104,8 +105,9 @@ fn structs(alloc: Global, part: &Part<'_>) -> Result<Shape, Refused>
     Ok(Shape::Structs(part.rows, validity))
 }
 
-/// Returns the shape of a part, read as an array of kind `kind`. Arrays with offsets of 32 bits or
-/// with views become those with offsets of 64 bits. Fails as `shape_of` does.
+/// Returns the shape of a part, read as an array of kind `kind`. Offsets of 32 bits and views are
+/// converted to offsets of 64 bits. Fails with `Parts` if the part makes no array, whatever its
+/// child arrays are, and with `Memory` if an allocation fails.
 fn shape_of_kind(alloc: Global, kind: PartKind, part: &Part<'_>) -> Result<Shape, Refused>
     ensures made { IfOk result (FitsKind kind part.now) }
     ensures refused { IfErr result (IsHonestOver (GoodKind kind part.now)) }
@@ -145,8 +147,8 @@ fn shape_of_kind(alloc: Global, kind: PartKind, part: &Part<'_>) -> Result<Shape
     }
 }
 
-/// Returns the shape of a part. Fails with `Parts` if the kind is unknown, or if the part can't be
-/// an array with any children, and with `Memory` if an allocation fails.
+/// Returns the shape of a part. Fails with `Parts` if the kind is unknown, or if the part makes no
+/// array, whatever its child arrays are. Fails with `Memory` if an allocation fails.
 pub fn shape_of(alloc: Global, part: &Part<'_>) -> Result<Shape, Refused>
     ensures made { IfOk result (FitsPart part.now) }
     ensures refused { IfErr result (IsHonestOver (GoodRows (kind_number part.now.kind) part.now)) }

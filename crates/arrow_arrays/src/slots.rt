@@ -25,8 +25,8 @@ use polars_arrays_numbers::native_type::NativeType;
 use std::alloc::Global;
 
 /// Copies the validity bits of a part into a bitmap with a bit for each row. Returns `None` if the
-/// part has no validity bits: no row is then null. Fails with `Parts` if there are fewer bits than
-/// rows, and with `Memory` if an allocation fails.
+/// part has no validity bits: no row is then null. Fails with `Parts` if the part has validity
+/// bits, but fewer than rows, and with `Memory` if an allocation fails.
 pub fn present(alloc: Global, part: &Part<'_>) -> Result<Option<Bitmap>, Refused>
     ensures mask { IfOk result (λ bits. bits ≡ present_in part.now) }
     ensures held { IfOk result (λ _. HoldRows part.now) }
@@ -64,7 +64,8 @@ pub fn numbers<T: NativeType>(
 }
 
 /// Copies the truth values and the validity of a part into a Boolean array. Fails with `Parts` if
-/// there are fewer bits than rows, and with `Memory` if an allocation fails.
+/// there are fewer truth values or validity bits than rows, and with `Memory` if an allocation
+/// fails.
 pub fn truths(alloc: Global, part: &Part<'_>) -> Result<BooleanArray, Refused>
     ensures made { IfOk result (IsTruths part.now) }
     ensures refused { IfErr result (IsHonest (AreTruths part.now)) }
@@ -75,10 +76,10 @@ pub fn truths(alloc: Global, part: &Part<'_>) -> Result<BooleanArray, Refused>
     Ok(array)
 }
 
-/// Subtracts the base of a part from `offsets`, the offsets of its strings or lists, and returns
+/// Subtracts `part.base` from `offsets`, the offsets of the part's strings or lists, and returns
 /// the results. Fails with `Parts` if there isn't one offset more than rows, or if an offset is
-/// less than the base, and with `Memory` if an allocation fails. A part without rows may have no
-/// offset at all.
+/// less than the base, and with `Memory` if an allocation fails. For a part without rows and
+/// without offsets, returns an empty buffer.
 pub fn ends<O: LentOffset>(
     alloc: Global,
     part: &Part<'_>,
@@ -97,9 +98,10 @@ pub fn ends<O: LentOffset>(
     Ok(ends)
 }
 
-/// Copies the byte strings of a part, whose offsets are `offsets`, and its validity into an array.
-/// Fails with `Parts` if `ends` does, if an offset is less than the one before it or lies past the
-/// bytes, or if there are fewer validity bits than rows, and with `Memory` if an allocation fails.
+/// Copies the byte strings of a part, which have the offsets `offsets`, and the part's validity
+/// into an array. Fails with `Parts` if there isn't one offset more than rows, if an offset is less
+/// than `part.base` or than the offset before it, if an offset lies past the bytes, or if there are
+/// fewer validity bits than rows. Fails with `Memory` if an allocation fails.
 pub fn strings<O: LentOffset>(
     alloc: Global,
     part: &Part<'_>,
@@ -119,8 +121,9 @@ pub fn strings<O: LentOffset>(
     Ok(array)
 }
 
-/// Returns the array of a part's texts, which have the offsets `offsets`. Fails as `strings` does,
-/// and with `Parts` if a text is not UTF-8, also one under a null.
+/// Copies the texts of a part, which have the offsets `offsets`, and the part's validity into an
+/// array. Fails as `strings` does, and with `Parts` if the text of a row is not UTF-8, even of a
+/// null row.
 pub fn texts<O: LentOffset>(
     alloc: Global,
     part: &Part<'_>,
@@ -140,9 +143,9 @@ pub fn texts<O: LentOffset>(
     Ok(array)
 }
 
-/// Returns the array of a part's byte strings of `part.width` bytes each. Fails with `Parts` if
-/// there are not exactly `part.width` bytes for each row, or if there are fewer validity bits than
-/// rows. Fails with `Memory` if an allocation fails.
+/// Copies the byte strings of a part, which have `part.width` bytes each, and the part's validity
+/// into an array. Fails with `Parts` if there are not exactly `part.width` bytes for each row, or
+/// if there are fewer validity bits than rows. Fails with `Memory` if an allocation fails.
 pub fn sized_strings(alloc: Global, part: &Part<'_>) -> Result<FixedSizeBinaryArray, Refused>
     ensures made { IfOk result (IsSizedStrings part.now) }
     ensures refused { IfErr result (IsHonest (AreSized part.now (length part.now.u8s.now))) }

@@ -24,7 +24,7 @@ use polars_arrays_bytes::text::Utf8Array;
 use polars_arrays_views::view::View;
 use std::alloc::Global;
 
-/// Returns the view that is stored as sixteen bytes.
+/// Returns the view that is stored in `bytes`, which are sixteen bytes.
 #[inline(always)]
 fn view_of(bytes: &[u8]) -> View
     requires { length bytes.now ≡ 16 }
@@ -43,8 +43,8 @@ fn is_zero(bytes: &[u8]) -> bool
     bytes.iter().all(|b| *b == 0)
 }
 
-/// Returns whether the length, the buffer's index and the offset of a view are below 2^31, that is,
-/// not negative in the Arrow format.
+/// Returns whether the length, the buffer's index and the offset of a view are below 2^31. In the
+/// Arrow format, they are signed numbers of 32 bits, which must not be negative.
 #[inline(always)]
 fn is_not_negative(view: &View) -> bool
     ensures { IsTrue result ↔ NotNegative view.now }
@@ -69,8 +69,9 @@ fn short_row(bytes: &[u8], len: usize) -> Option<&[u8]>
     }
 }
 
-/// Returns a row of more than 12 bytes, which lies in the buffer to which `view` refers. Returns
-/// `None` if this buffer doesn't exist or is too short, or if the row doesn't begin with `prefix`.
+/// Returns a row of more than 12 bytes, which lies in the buffer to which `view` refers. `prefix`
+/// is the copy of the row's first four bytes in the view. Returns `None` if this buffer doesn't
+/// exist or is too short, or if the row doesn't begin with `prefix`.
 #[inline(always)]
 fn long_row<'a>(view: &View, prefix: &[u8], buffers: &'a [Bytes<'a>]) -> Option<&'a [u8]>
     requires long { 12 < view_len view.now }
@@ -91,7 +92,9 @@ fn long_row<'a>(view: &View, prefix: &[u8], buffers: &'a [Bytes<'a>]) -> Option<
 }
 
 /// Returns the row of the view that is stored as the sixteen bytes `bytes`. A row of more than 12
-/// bytes lies in one of `buffers`. Returns `None` if the view is not valid.
+/// bytes lies in one of `buffers`. Returns `None` if the view is not valid: if a byte after a short
+/// row is not 0, if the index of the buffer or the offset is negative or too large, or if the row
+/// doesn't begin with the prefix in the view.
 fn row_of<'a>(bytes: &'a [u8], buffers: &'a [Bytes<'a>]) -> Option<&'a [u8]>
     requires { length bytes.now ≡ 16 }
     ensures row { IfSome result (λ row. row.now ≡ row_bytes (lent_buffers buffers.now) bytes.now) }
@@ -108,7 +111,8 @@ fn row_of<'a>(bytes: &'a [u8], buffers: &'a [Bytes<'a>]) -> Option<&'a [u8]>
     long_row(&view, &bytes[4..8], buffers)
 }
 
-/// Returns whether row `i` is present. If `present` is `None`, all rows are present.
+/// Returns whether row `i` is present, that is, whether bit `i` of `present` exists and is 1. If
+/// `present` is `None`, all rows are present.
 #[inline(always)]
 fn is_row(present: &Option<Bitmap>, i: usize) -> bool
     ensures { result ≡ is_present present.now i }

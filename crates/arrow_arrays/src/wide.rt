@@ -33,8 +33,8 @@ fn signed(number: u128) -> i128
     }
 }
 
-/// Returns the number of each pair of words, the lower word first. A single last word is ignored.
-/// The only error is `Memory`.
+/// Joins each pair of words to a number of 128 bits. The lower word of a pair comes first. If there
+/// is an odd number of words, the last one is ignored. The only error is `Memory`.
 fn numbers_of(alloc: Global, words: &[u64]) -> Result<Vec<u128>, Refused>
     ensures numbers { IfOk result (λ all. all.items ≡ wide_numbers words.now) }
     ensures refused { IfErr result IsMemoryFailure }
@@ -47,8 +47,9 @@ fn numbers_of(alloc: Global, words: &[u64]) -> Result<Vec<u128>, Refused>
     Ok(all)
 }
 
-/// Returns the signed number of each pair of words, the lower word first. A single last word is
-/// ignored. The only error is `Memory`.
+/// Joins each pair of words to a signed number of 128 bits in two's complement. The lower word of a
+/// pair comes first. If there is an odd number of words, the last one is ignored. The only error is
+/// `Memory`.
 fn signed_of(alloc: Global, words: &[u64]) -> Result<Vec<i128>, Refused>
     ensures numbers { IfOk result (λ all. all.items ≡ map signed_wide (wide_numbers words.now)) }
     ensures refused { IfErr result IsMemoryFailure }
@@ -61,7 +62,9 @@ fn signed_of(alloc: Global, words: &[u64]) -> Result<Vec<i128>, Refused>
     Ok(all)
 }
 
-/// Returns the array of a part's unsigned numbers of 128 bits. Fails as `numbers` does.
+/// Copies the unsigned numbers of 128 bits in `part.u64s`, and the validity of the part, into an
+/// array. Fails with `Parts` if there isn't one pair of words for each row, or if there are fewer
+/// validity bits than rows, and with `Memory` if an allocation fails.
 pub fn unsigned_numbers(alloc: Global, part: &Part<'_>) -> Result<PrimitiveArray<u128>, Refused>
     ensures made { IfOk result (IsNumbers part.now (wide_numbers part.now.u64s.now)) }
     ensures refused { IfErr result
@@ -71,7 +74,9 @@ pub fn unsigned_numbers(alloc: Global, part: &Part<'_>) -> Result<PrimitiveArray
     numbers(alloc, part, &values)
 }
 
-/// Returns the array of a part's signed numbers of 128 bits. Fails as `numbers` does.
+/// Copies the signed numbers of 128 bits in `part.u64s`, and the validity of the part, into an
+/// array. Fails with `Parts` if there isn't one pair of words for each row, or if there are fewer
+/// validity bits than rows, and with `Memory` if an allocation fails.
 pub fn signed_numbers(alloc: Global, part: &Part<'_>) -> Result<PrimitiveArray<i128>, Refused>
     ensures made { IfOk result
         (IsNumbers part.now (map signed_wide (wide_numbers part.now.u64s.now))) }

@@ -11,7 +11,7 @@ use polars_arrays_bits::buffer::Buffer;
 use polars_arrays_words::packing::put;
 use std::alloc::Global;
 
-/// Returns the `count` bytes of `bytes` from index `at` on as a word, the first byte lowest. The
+/// Reads `count` of `bytes`, from index `at` on, as a little-endian word. `count` is at most 8. The
 /// remaining high bytes of the word are 0.
 fn few_bytes(bytes: &[u8], at: usize, count: usize) -> u64
     requires few { count ≤ 8 }
@@ -25,8 +25,8 @@ fn few_bytes(bytes: &[u8], at: usize, count: usize) -> u64
     word
 }
 
-/// Copies bytes into words of 8 bytes each, the first byte lowest. The bits of the last word past
-/// the last byte are 0. The only error is `Memory`.
+/// Copies bytes into little-endian words of 8 bytes each. The bits of the last word past the last
+/// byte are 0. The only error is `Memory`.
 fn words_of(alloc: Global, bytes: &[u8]) -> Result<Vec<u64>, Refused>
     ensures room { IfOk result (λ words. length bytes.now ≤ 8 * length words.items) }
     ensures bits { IfOk result (λ words. HaveBytes bytes.now (length bytes.now) words.items) }

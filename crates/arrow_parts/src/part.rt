@@ -20,7 +20,7 @@ pub struct Part<'a> {
     /// The number of a `PartKind`.
     pub kind: u32,
     /// The number of child arrays: 1 for lists and dictionaries, the number of columns for a
-    /// struct. The children of other kinds are ignored.
+    /// struct. If a part of another kind has child arrays, they are ignored.
     pub children: u32,
     /// The number of rows.
     pub rows: usize,
@@ -31,7 +31,8 @@ pub struct Part<'a> {
     /// The offset, in a string or list array, of the first lent byte or item. An offset `o` refers
     /// to index `o - base` of the lent bytes or items.
     pub base: usize,
-    /// The name of the part in UTF-8, if it is a column of a struct.
+    /// The name of the part. It has to be UTF-8, and is used only if the part is a column of a
+    /// struct.
     pub name: &'a [u8],
     /// The validity: a bit for each row, 1 if the row is present. Empty if all rows are present.
     pub present: &'a [u8],
@@ -56,11 +57,12 @@ pub struct Part<'a> {
 }
 
 /// The kind of a part: its type, and the layout of its rows. The kinds have the numbers 1 to 31.
+/// The kinds of dictionaries, such as `DictInt8`, are named by the type of the keys.
 #[derive(Clone, Copy, PartialEq, Eq, Debug)]
 pub enum PartKind {
     /// Number 1.
     Null,
-    /// Number 2. The following kinds have the following numbers.
+    /// Number 2. Each kind below has the number after that of the kind above it.
     Boolean,
     Int8,
     Int16,

@@ -12,7 +12,7 @@ use std::alloc::{AllocError, AllocFailed};
 pub enum Refused {
     /// The parts do not make an array.
     Parts,
-    /// The two arrays differ in type or in length.
+    /// The two arrays that are compared differ in type or in length.
     Types,
     /// The caller's memory is too small for the result.
     Room,

@@ -10,7 +10,7 @@ use crate::refused::Refused;
 use polars_arrays_bits::bit_mask::BitMask;
 use polars_arrays_bits::bitmap::Bitmap;
 
-/// Returns bits `64 * k` to `64 * k + 63` of `mask` as a word, the first one lowest. Bits past the
+/// Returns bits `64 * k` to `64 * k + 63` of `mask` as a word, bit `64 * k` lowest. Bits past the
 /// end of the mask are 0.
 fn word_at(mask: &BitMask<'_>, k: usize) -> u64
     ensures { IsWord (λ p. slice_index_or mask.now p false) k result }
@@ -25,8 +25,8 @@ fn word_at(mask: &BitMask<'_>, k: usize) -> u64
     }
 }
 
-/// Writes `bits` into `out`, the first one into the lowest bit of the first word. Sets all later
-/// bits of `out` to 0.
+/// Writes `bits` into the words `out`. The first bit becomes the lowest bit of the first word. Sets
+/// all bits of `out` after the last of `bits` to 0.
 ///
 /// Fails with `Room` if `out` has fewer bits than `bits`. `out` is then unchanged.
 pub fn write_bits(bits: &Bitmap, out: &mut [u64]) -> Result<(), Refused>
