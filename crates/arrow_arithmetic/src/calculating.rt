@@ -26,15 +26,15 @@ pub enum Arithmetic {
     Add,
     Subtract,
     Multiply,
-    /// Returns the quotient, rounded down.
+    /// Division, with the quotient rounded down.
     FloorDivide,
-    /// Returns the quotient, rounded toward 0.
+    /// Division, with the quotient rounded toward 0.
     TruncatingDivide,
-    /// Returns the remainder of the division whose quotient is rounded down.
+    /// The remainder of the division whose quotient is rounded down.
     Modulo,
 }
 
-/// The side of an operation on which a constant number is.
+/// The side of an operation on which its constant operand is.
 #[derive(Clone, Copy, PartialEq, Eq, Debug)]
 pub enum Side {
     Left,
@@ -94,7 +94,7 @@ impl Sign {
     }
 }
 
-// Returns for which right numbers an operation has a result. A division has none for 0.
+// Returns the right operands for which an operation has a result. A division has none for 0.
 fn answered_rights(arithmetic: Arithmetic) -> Answered
     ensures { result ≡ rights_of arithmetic }
 {
@@ -108,8 +108,8 @@ fn answered_rights(arithmetic: Arithmetic) -> Answered
     }
 }
 
-// Returns for which left numbers an operation with a constant right number has a result. `zero`
-// says whether the constant is 0. Divisions by 0 have no result.
+// Returns the left operands for which an operation has a result if its right operand is a constant.
+// `zero` says whether the constant is 0. Divisions by 0 have no result.
 fn answered_lefts(arithmetic: Arithmetic, zero: bool) -> Answered
     ensures { result ≡ lefts_of zero arithmetic }
 {
@@ -126,8 +126,8 @@ fn answered_lefts(arithmetic: Arithmetic, zero: bool) -> Answered
     }
 }
 
-// Returns for which numbers of a column an operation with a constant has a result. The constant is
-// on side `side`, and `zero` says whether it is 0.
+// Returns the numbers of a column for which an operation with a constant has a result. The constant
+// is the operand on side `side`, and `zero` says whether it is 0.
 fn answered_beside(arithmetic: Arithmetic, side: Side, zero: bool) -> Answered
     ensures { result ≡ beside_of side zero arithmetic }
 {
@@ -138,9 +138,9 @@ fn answered_beside(arithmetic: Arithmetic, side: Side, zero: bool) -> Answered
 }
 
 /// Applies the operation `arithmetic` to each pair of rows of two columns, and writes the results
-/// into `out`. Returns a bit for each row, 1 if the result is present. A result is null if one of
-/// the two rows is null, or if a number is divided by 0; an arbitrary number is then written. The
-/// only error is `Memory`, and `out` is then unchanged.
+/// into `out`. The columns and `out` have the same length. Returns a bit for each row, 1 if the
+/// result is present. A result is null if one of the two rows is null, or if a number is divided by
+/// 0; an arbitrary number is then written. The only error is `Memory`, and `out` is then unchanged.
 pub fn calculate<T: PlNumArithmetic>(
     alloc: Global,
     arithmetic: Arithmetic,
@@ -163,9 +163,10 @@ pub fn calculate<T: PlNumArithmetic>(
 }
 
 /// Applies the operation `arithmetic` to each row of a column and the constant `number`, which is
-/// the operand on side `side`. Writes the results into `out`. Returns a bit for each row, 1 if the
-/// result is present. A result is null if the row is null, or if a number is divided by 0; an
-/// arbitrary number is then written. The only error is `Memory`, and `out` is then unchanged.
+/// the operand on side `side`. Writes the results into `out`, which has the length of the column.
+/// Returns a bit for each row, 1 if the result is present. A result is null if the row is null, or
+/// if a number is divided by 0; an arbitrary number is then written. The only error is `Memory`,
+/// and `out` is then unchanged.
 pub fn calculate_number<T: PlNumArithmetic>(
     alloc: Global,
     arithmetic: Arithmetic,
@@ -190,9 +191,9 @@ pub fn calculate_number<T: PlNumArithmetic>(
 }
 
 /// Calculates the function `sign` (negation or absolute value) of each row of a column, and writes
-/// the results, wrapped to the type, into `out`. Returns a bit for each row, 1 if the row is
-/// present. An arbitrary number is written for a null row. The only error is `Memory`, and `out` is
-/// then unchanged.
+/// the results, wrapped to the type, into `out`, which has the length of the column. Returns a bit
+/// for each row, 1 if the row is present. An arbitrary number is written for a null row. The only
+/// error is `Memory`, and `out` is then unchanged.
 pub fn change_sign<T: PlNumArithmetic>(
     alloc: Global,
     sign: Sign,

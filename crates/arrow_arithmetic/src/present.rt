@@ -57,8 +57,9 @@ pub(crate) fn present_rows<T: NativeType + Zero>(
     Ok(bits.freeze())
 }
 
-/// Returns a bit for each pair of rows, 1 if both rows are present and the right number is one of
-/// the numbers `answered`, for which the operation has a result. The only error is `Memory`.
+/// Returns a bit for each pair of rows of two columns of equal length, 1 if both rows are present
+/// and the right number is one of the numbers `answered`, for which the operation has a result. The
+/// only error is `Memory`.
 pub(crate) fn present_pairs<T: NativeType + Zero>(
     alloc: Global,
     answered: Answered,

@@ -74,8 +74,8 @@ impl<'a, T: NativeType, F: NumberFunction<T>> Computed<T> for Each<'a, T, F> {
     }
 }
 
-// Applies an operation to each pair of numbers of two slices, and writes the results into `out`. If
-// there is no result, 0 is written.
+// Applies an operation to each pair of numbers of two slices, and writes the results into `out`.
+// All three slices have the same length. If there is no result, 0 is written.
 fn write_operation<T: NativeType, O: NumberOperation<T> + Drop>(
     operation: O,
     left: &[T],
@@ -97,8 +97,8 @@ fn write_operation<T: NativeType, O: NumberOperation<T> + Drop>(
     );
 }
 
-// Applies a function to each number, and writes the results into `out`. If there is no result, 0 is
-// written.
+// Applies a function to each of `values`, and writes the results into `out`, which has the same
+// length. If there is no result, 0 is written.
 fn write_function<T: NativeType, F: NumberFunction<T> + Drop>(
     function: F,
     values: &[T],
@@ -112,7 +112,7 @@ fn write_function<T: NativeType, F: NumberFunction<T> + Drop>(
 }
 
 /// Applies the operation `arithmetic` to each pair of numbers of two slices, and writes the results
-/// into `out`. If there is no result, 0 is written.
+/// into `out`. All three slices have the same length. If there is no result, 0 is written.
 pub(crate) fn write_pairs<T: PlNumArithmetic>(
     arithmetic: Arithmetic,
     left: &[T],
@@ -135,7 +135,8 @@ pub(crate) fn write_pairs<T: PlNumArithmetic>(
 }
 
 // Applies the operation `operation` to each of `values` and the constant `number`, which is the
-// operand on side `side`. Writes the results into `out`. If there is no result, 0 is written.
+// operand on side `side`. Writes the results into `out`, which has the length of `values`. If there
+// is no result, 0 is written.
 fn write_placed<T: PlNumArithmetic, O: NumberOperation<T> + Drop>(
     operation: O,
     side: Side,
@@ -160,7 +161,8 @@ fn write_placed<T: PlNumArithmetic, O: NumberOperation<T> + Drop>(
 }
 
 /// Applies the operation `arithmetic` to each of `values` and the constant `number`, which is the
-/// operand on side `side`. Writes the results into `out`. If there is no result, 0 is written.
+/// operand on side `side`. Writes the results into `out`, which has the length of `values`. If
+/// there is no result, 0 is written.
 pub(crate) fn write_beside<T: PlNumArithmetic>(
     arithmetic: Arithmetic,
     side: Side,
@@ -182,7 +184,8 @@ pub(crate) fn write_beside<T: PlNumArithmetic>(
     }
 }
 
-/// Applies the function `sign` to each of `values`, and writes the results into `out`.
+/// Applies the function `sign` to each of `values`, and writes the results into `out`, which has
+/// the same length.
 pub(crate) fn write_signs<T: PlNumArithmetic>(sign: Sign, values: &[T], out: &mut [T])
     requires { length out.old ≡ length values.now }
     ensures { map T.value out.new ≡ map (λ x. wrapped T.low (bit_len T.width)

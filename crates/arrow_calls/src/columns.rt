@@ -11,9 +11,9 @@ use arrow_parts::part::Part;
 use polars_arrays_numbers::native_type::NativeType;
 use std::alloc::Global;
 
-/// Borrows the numbers `values` of a part as a column. The part's bits become the column's
-/// validity. Fails with `Parts` if `values` does not have one number for each row, or if the part
-/// has validity bits, but fewer than rows. Fails with `Memory` if an allocation fails.
+/// Borrows the numbers `values` of a part as a column. The part's validity bits are copied into the
+/// column. Fails with `Parts` if `values` does not have one number for each row, or if the part has
+/// validity bits, but fewer than rows. Fails with `Memory` if an allocation fails.
 pub fn column<'a, T: NativeType>(
     alloc: Global,
     part: &Part<'_>,

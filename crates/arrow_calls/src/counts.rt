@@ -18,7 +18,7 @@ use std::alloc::Global;
 /// the counts into `counts`. The validity of the counts is that of the part, and the count of a
 /// null row is arbitrary. Fails with `Parts` if `values` does not have one number for each row or
 /// the part has too few validity bits, with `Room` if `counts` does not have one element for each
-/// row, and with `Memory` if an allocation fails. `counts` is then unchanged.
+/// row, and with `Memory` if an allocation fails. After an error, `counts` is unchanged.
 pub fn count_numbers<T: BitNumber>(
     alloc: Global,
     counting: Counting,

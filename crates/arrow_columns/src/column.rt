@@ -56,7 +56,7 @@ impl<'a, T: NativeType> Column<'a, T> {
         self.values.len()
     }
 
-    /// Returns the stored values, including those of masked rows.
+    /// Returns the stored values, including those of null rows.
     pub fn values(&self) -> &'a [T]
         ensures { result.now ≡ self.now.values }
     {

@@ -25,7 +25,7 @@ use polars_compare_leaves::joining::{Relation, join_masks};
 use polars_compare_leaves::row_comparison::RowComparison;
 use std::alloc::Global;
 
-/// A comparison of two rows. Under `Equal` and `Unequal`, null is equal to null alone. The other
+/// A comparison of two rows. Under `Equal` and `Unequal`, null is equal only to null. The other
 /// comparisons are false if one of the two rows is null.
 #[derive(Clone, Copy, PartialEq, Eq, Debug)]
 pub enum Test {
@@ -37,9 +37,10 @@ pub enum Test {
     GreaterOrEqual,
 }
 
-// Compares the stored values of two columns row by row with `comparison`. Then corrects the bits of
-// null rows with the masks, so that null is equal to null alone under `relation`, which is `Equal`
-// or `Unequal`. Returns a bit for each pair of rows. The only error is `Memory`.
+// Compares two columns of equal length row by row. Two present rows are compared with `comparison`.
+// If one of the two rows is null, they are compared under `relation`, which is `Equal` or
+// `Unequal`: null is equal only to null. Returns a bit for each pair of rows, 1 if the comparison
+// is true. The only error is `Memory`.
 fn join<T: NativeType, E: RowComparison<T>>(
     alloc: Global,
     relation: Relation,
@@ -74,8 +75,8 @@ pub fn keep_present(bits: &mut MutableBitmap, mask: Option<BitMask<'_>>)
     }
 }
 
-// Compares the rows of two columns row by row. Returns a bit for each pair of rows, 1 if both rows
-// are present and `comparison` is true. The only error is `Memory`.
+// Compares two columns of equal length row by row. Returns a bit for each pair of rows, 1 if both
+// rows are present and `comparison` is true. The only error is `Memory`.
 fn compare_present<T: NativeType, E: RowComparison<T>>(
     alloc: Global,
     comparison: &E,

@@ -53,8 +53,8 @@ impl<'a, T: NativeType, C: BitCount<T>> Computed<u32> for Counts<'a, T, C> {
     }
 }
 
-// Applies `count` to each stored value of a column, also to those under nulls, and writes the
-// numbers of bits into `out`.
+// Applies `count` to each stored value of a column, including those of null rows, and writes the
+// counts into `out`, which has the length of the column.
 fn write_counts<T: NativeType, C: BitCount<T> + Drop>(
     count: C,
     column: &Column<'_, T>,

@@ -26,7 +26,7 @@ trait BestFrom<T: NativeType>: Operator<T> + Drop {
     ghost better: { Row → Row → Bool };
 
     // States that at most one of two rows is better than the other. Moreover, if `y` is better than
-    // `x`, and `z` is not, then `y` is better than `z`.
+    // `x`, and `z` is not better than `x`, then `y` is better than `z`.
     ghost preference_law: { Prefers Int better };
 
     /// Creates the operator. Its folds start with `first`.
@@ -135,7 +135,8 @@ impl<T: NativeType> BestFrom<T> for GreatestFrom<T> {
     }
 }
 
-// Returns the index of the first of `n` rows that is present, or `None` if no row is present.
+// Returns the index of the first present row of `n` rows, or `None` if no row is present. `present`
+// is the validity of the rows.
 fn first_present(present: Option<&Bitmap>, n: usize) -> Option<usize>
     requires { HasBits n (option_copied present) }
     ensures { MatchOption result

@@ -19,8 +19,9 @@ use polars_arrays_numbers::native_type::greatest_value;
 use polars_compute_slots::number::UniqueNumber;
 use polars_compute_slots::span::Span;
 
-// Returns whether a row is null or its number lies in the range `span`. The two facts are joined
-// with `|`, so that no branch is needed.
+// Returns whether a row is null or its number lies in the range `span`. The row has the stored
+// number `number`, and is null if `present` is false. The two conditions are joined with `|`, so
+// that no branch is needed.
 #[inline(always)]
 fn accepts_row<T: UniqueNumber>(span: &Span<T>, present: bool, number: T) -> bool
     ensures { result ≡ is_within (numbers_from (T.value span.now.least) span.now.count)
@@ -37,12 +38,13 @@ fn lies_between<T: UniqueNumber>(least: T, greatest: T, number: T) -> bool
         ↔ (T.value least ≤ℤ T.value number) × (T.value number ≤ℤ T.value greatest) }
     ensures high { T.value number ≤ℤ T.high }
 {
-    // Has no effect at run time. The proof learns from it that the number is one of the type.
+    // Has no effect at run time. The proof needs the fact that `number` lies in the range of `T`.
     let _whole = number.whole();
     LessOrEqual.compare(least, number) & LessOrEqual.compare(number, greatest)
 }
 
-// Returns the greatest number of the range `span` that type `T` can represent.
+// Returns the greatest number of the range `span` that type `T` can represent. The range is not
+// empty.
 fn last_number<T: UniqueNumber>(span: &Span<T>) -> T
     requires { 0 < span.now.count }
     ensures { (m : ℤ) → m ≤ℤ T.high → (HasSlot (T.value span.now.least) span.now.count (Int m)
@@ -57,9 +59,9 @@ fn last_number<T: UniqueNumber>(span: &Span<T>) -> T
     }
 }
 
-// Returns whether every stored number lies in the range, also those under nulls. This is much
-// faster than `accepts_rows`: the loop has no branch, doesn't read the validity, and compares
-// numbers of type `T` instead of `i128`.
+// Returns whether every stored number, also of a null row, lies in the range `span`, which is not
+// empty. This function is much faster than `accepts_rows`: the loop has no branch, doesn't read the
+// validity, and compares numbers of type `T` instead of `i128`.
 fn holds_all<T: UniqueNumber>(span: &Span<T>, numbers: &[T]) -> bool
     requires { 0 < span.now.count }
     ensures { result ≡ are_within (numbers_from (T.value span.now.least) span.now.count)
@@ -89,9 +91,9 @@ fn accepts_rows<T: UniqueNumber>(span: &Span<T>, numbers: &[T], validity: Option
     true
 }
 
-// Returns whether every row is null or its number lies in the range. Tries `holds_all` first,
-// unless the range is empty. `accepts_rows` is needed only if a stored number lies outside, such as
-// one under a null.
+// Returns whether every row is null or its number lies in the range. Calls the faster `holds_all`
+// first, unless the range is empty. Calls `accepts_rows` if the range is empty, or if a stored
+// number lies outside the range, such as that of a null row.
 fn accepts<T: UniqueNumber>(span: &Span<T>, numbers: &[T], validity: Option<&Bitmap>) -> bool
     requires { HasBits (length numbers.now) (option_copied validity) }
     ensures { result ≡ are_within (numbers_from (T.value span.now.least) span.now.count)

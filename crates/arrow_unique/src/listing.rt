@@ -40,8 +40,9 @@ fn low_word_at(least: i128, i: usize) -> u64
 }
 
 /// Writes the numbers that a state has seen to `out`, in ascending order. The range of the state is
-/// the `count` numbers from `least` on. Each number is written as the lower 64 bits of its two's
-/// complement. The rest of `out` is unchanged.
+/// the `count` numbers from `least` on, and `words` has a bit for each of them. Each number is
+/// written as the lower 64 bits of its two's complement. `out` has room for all numbers that were
+/// seen, and its remaining elements are unchanged.
 pub fn list(least: i128, count: usize, words: &[u64], out: &mut [u64])
     requires numbers { (least +ℤ pos count) ≤ℤ pos (2 ^ 127) }
     requires bits { count ≤ 64 * length words.now }

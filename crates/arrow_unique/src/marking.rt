@@ -52,7 +52,7 @@ fn mark_all<T: UniqueNumber>(words: &mut [u64], span: &Span<T>, numbers: &[T])
 
 // Sets the bits of the numbers of present rows in the state `words`. `numbers` are the numbers of
 // at most 64 rows; those of present rows lie in the range `span`. Row `i` is present if bit `i` of
-// `present` is 1. The loop visits only present rows.
+// `present` is 1. Bits of `present` without a row are 0. The loop visits only present rows.
 #[inline(always)]
 fn mark_some<T: UniqueNumber>(words: &mut [u64], span: &Span<T>, numbers: &[T], present: u64)
     requires few { length numbers.now ≤ 64 }
@@ -73,8 +73,10 @@ fn mark_some<T: UniqueNumber>(words: &mut [u64], span: &Span<T>, numbers: &[T], 
     }
 }
 
-// Sets the bits of the numbers of present rows in the state `words`. The arguments have the same
-// meaning as in `mark_some`. If all 64 rows are present, no bit of `present` is examined.
+// Sets the bits of the numbers of present rows in the state `words`. `numbers` are the numbers of
+// at most 64 rows; those of present rows lie in the range `span`. Row `i` is present if bit `i` of
+// `present` is 1. Bits of `present` without a row are 0. This function is faster than `mark_some`
+// if all 64 rows are present.
 #[inline(always)]
 fn mark_word<T: UniqueNumber>(words: &mut [u64], span: &Span<T>, numbers: &[T], present: u64)
     requires few { length numbers.now ≤ 64 }
