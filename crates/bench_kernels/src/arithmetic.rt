@@ -240,9 +240,9 @@ fn validities(
 }
 
 // Creates two arrays of `left` and `right`, converted to `T`. The validity of the left array begins
-// at bit 0 of `words`, and that of the right one 64 bits later. If `words` is empty, they have
-// none. The error is `Unsupported` if `words` is too short, or if it is not empty and the lengths
-// differ. Any other error is `Memory`.
+// at bit 0 of `words`, and that of the right one 64 bits later. If `words` is empty, the arrays
+// have no validity. The error is `Unsupported` if `words` is too short, or if it is not empty and
+// the lengths differ. Any other error is `Memory`.
 fn pair_of<T: NativeType>(
     alloc: Global,
     left: &[i64],
@@ -255,9 +255,9 @@ where
     two_arrays(alloc, left, right, validities(alloc, words, left.len())?)
 }
 
-// Creates an array of `values`, converted to `T`. The first bits of `words` are its validity. It
-// has none if `words` is empty. The error is `Unsupported` if `words` is not empty and has fewer
-// than 64 bits after those of the validity. Any other error is `Memory`.
+// Creates an array of `values`, converted to `T`. The first bits of `words` are its validity. If
+// `words` is empty, the array has no validity. The error is `Unsupported` if `words` is not empty
+// and has fewer than 64 bits after those of the validity. Any other error is `Memory`.
 fn array_of<T: NativeType>(
     alloc: Global,
     values: &[i64],

@@ -14,7 +14,7 @@ pub(crate) enum ColumnKernel {
 }
 
 /// The columns of two tables. A run of a kernel compares each column of `left` with the column of
-/// `right` at the same index, and adds up the numbers of all columns.
+/// `right` at the same index, and returns the sum of the numbers that `run_column` returns.
 #[derive(Drop)]
 struct Columns<'a> {
     left: &'a [PrimitiveArray<i32>],

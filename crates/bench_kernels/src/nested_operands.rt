@@ -44,7 +44,7 @@ pub(crate) enum NestedType {
 }
 
 /// The parts of an array. `NestedType` says which of them each type uses, and what for. The bits of
-/// `present` are a validity. If it is empty, there is none.
+/// `present` are a validity. If `present` is empty, there is no validity.
 #[derive(Drop)]
 pub(crate) struct Parts<'a> {
     pub(crate) size: usize,

@@ -115,8 +115,8 @@ pub(crate) fn validity_from(
 }
 
 // Creates an array of `values`, converted to `T`, and a clone of it. The validity begins at bit
-// `shift` of `validities`. If this slice is empty, the array has none. The error is `Unsupported`
-// if `validities` is too short. Any other error is `Memory`.
+// `shift` of `validities`. If this slice is empty, the array has no validity. The error is
+// `Unsupported` if `validities` is not empty and too short. Any other error is `Memory`.
 fn array_and_clone<T: NativeType>(
     alloc: Global,
     values: &[i64],

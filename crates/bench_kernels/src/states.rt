@@ -37,6 +37,8 @@ struct Chunks<'a, T: UniqueNumber> {
 impl<T: UniqueNumber> Timed for Chunks<'_, T> {
     type Kernel = ();
 
+    // Returns the number of distinct rows that the new state has seen, or `NO_STATE` if it could
+    // not be created. Ignores the kernel and `i`.
     #[inline(always)]
     fn run(&self, alloc: Global, _kernel: (), _i: usize) -> u64 {
         match PrimitiveRangedUniqueState::new(alloc, self.least, self.greatest) {
@@ -199,6 +201,8 @@ fn merge<T: UniqueNumber>(
 impl<T: UniqueNumber> Timed for Merges<'_, T> {
     type Kernel = ();
 
+    // Returns the number of distinct rows that the new state has seen, or `NO_STATE` if it could
+    // not be created. Ignores the kernel and `i`.
     #[inline(always)]
     fn run(&self, alloc: Global, _kernel: (), _i: usize) -> u64 {
         match PrimitiveRangedUniqueState::new(alloc, self.least, self.greatest) {

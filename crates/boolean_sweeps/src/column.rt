@@ -22,7 +22,7 @@ pub struct Sort {
     /// the same chances.
     pub nulls: u64,
     /// Chances in 32 that a present row is true. In the values, the bits of nulls and those that
-    /// belong to no row are 1 with the other `32 - trues` chances.
+    /// belong to no row are 1 with `32 - trues` chances in 32.
     pub trues: u64,
 }
 

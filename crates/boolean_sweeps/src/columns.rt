@@ -22,21 +22,21 @@ pub const ALL_TRUE: Sort = Sort {
     trues: 32,
 };
 
-/// Rows of which about half are null. The others are random.
+/// Rows with a validity. About half are null, and the present rows are random.
 pub const HALF_NULL: Sort = Sort {
     has_validity: true,
     nulls: 16,
     trues: 16,
 };
 
-/// Rows of which about half are null. The others are true.
+/// Rows with a validity. About half are null, and all present rows are true.
 pub const NULL_OR_TRUE: Sort = Sort {
     has_validity: true,
     nulls: 16,
     trues: 32,
 };
 
-/// Rows of which most are null. The others are false.
+/// Rows with a validity. Most are null, and all present rows are false.
 pub const FEW_FALSE: Sort = Sort {
     has_validity: true,
     nulls: 29,

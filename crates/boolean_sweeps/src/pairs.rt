@@ -159,10 +159,10 @@ fn compare_bits(counts: &mut Counts, kernel: Kernel, left: &Column, right: &Colu
     }
 }
 
-/// Calls all kernels twice on two columns whose rows are all true, and prints for each kernel how
-/// many results were as expected and how many differed. A `Column` has an array, and a list of its
-/// rows from which the results are computed. In the first round, row 100 is false in the right
-/// list, and in the second round in the left list, so that results have to differ.
+/// Calls all kernels twice on two columns whose rows are all true, and prints the counts. The
+/// expected results are computed from the lists of the columns. In the first round, row 100 is
+/// false in the right list, and in the second round in the left list, so that results have to
+/// differ.
 pub fn sweep_turned(rt: &(impl Print + AllocGlobal)) -> Result<(), Fault> {
     let alloc = rt.alloc();
     let mut tallies = begin(alloc, &KERNELS)?;

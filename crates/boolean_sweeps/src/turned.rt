@@ -9,7 +9,8 @@ use crate::singles::Singles;
 use recorded_text::fault::Fault;
 use std::alloc::Global;
 
-/// Calls all kernels on arrays of which the list of rows has one wrong row, and prints the counts.
+/// Calls all kernels on arrays, computes the expected results from lists with one wrong row, and
+/// prints the counts.
 pub fn sweep(rt: &(impl Print + AllocGlobal)) -> Result<(), Fault> {
     println!(rt; "Row 100 told wrong, of the right array and then of the left:")?;
     pairs::sweep_turned(rt)?;

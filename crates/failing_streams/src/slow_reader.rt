@@ -37,6 +37,9 @@ fn given(pace: usize, room: usize, left: usize) -> usize
 }
 
 impl Read for SlowReader<'_> {
+    // Gives at most `manner.pace` bytes. If the reader is boasting, returns one more than the
+    // number of bytes that it gave, unless it gave none or filled `buf`. The error is that of
+    // `Calls::count`.
     fn read(&mut self, buf: &mut [u8]) -> io::Result<usize> {
         self.reads.count()?;
         let bytes = self.bytes;

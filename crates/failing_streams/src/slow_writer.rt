@@ -32,6 +32,9 @@ impl SlowWriter {
 }
 
 impl Write for SlowWriter {
+    // Accepts at most `manner.pace` bytes. After the last successful write, returns `Ok(0)` if the
+    // writer is stopping, and otherwise the error `BrokenPipe`. Other errors are `Interrupted`, and
+    // that of a failed allocation.
     fn write(&mut self, buf: &[u8]) -> io::Result<usize> {
         if let Err(error) = self.writes.count() {
             if self.manner.stopping && error.kind() != io::ErrorKind::Interrupted {

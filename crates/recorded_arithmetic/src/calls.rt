@@ -26,7 +26,7 @@ pub enum Call {
     SumRows,
     /// The sum of the stored values of an array.
     SumValues,
-    /// The sum of the stored values of an array with a 1 in given bits.
+    /// The sum of the stored values of an array, except those whose bit in a given bitmap is 0.
     SumMasked,
     /// A function of one number, or an operation on two numbers.
     Calculate,

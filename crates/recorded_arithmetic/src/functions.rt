@@ -1,7 +1,7 @@
 //! Functions applied to the stored values of arrays, also those of null rows.
 //!
 //! Each item below gives a call. Its result is the array of the function's results, as text. A row
-//! of it is null if a row of an operand at this index is null.
+//! of this array is null if the row of an operand at the same index is null.
 //!
 //! - `prim_unary_values FUNCTION A`: for the values of an array; FUNCTION is `doubled`, `widened`,
 //!   `negated` or `is_zero`

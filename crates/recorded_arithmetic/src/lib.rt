@@ -4,9 +4,9 @@
 //! An operand that is an array is written as its name, or as `slice NAME AT N`: its `N` rows from
 //! row `AT` on. The call gets a clone of it, which owns its values exactly if the array does.
 //!
-//! In all functions that return a `Fault`, it is `Word` if a word is missing or malformed, `Case`
-//! if an array does not exist or the call does not take the operands or the function that the words
-//! name, and `Memory` if an allocation fails.
+//! The `Fault` of a function is `Word` if a word is missing or malformed, `Memory` if an allocation
+//! fails, and `Case` if an array does not exist or the call does not take the operands or the
+//! function that the words name.
 #![tactic(auto)]
 
 ghost use Rattle.recorded_text.specs.Cases.{HasGoodArrays};

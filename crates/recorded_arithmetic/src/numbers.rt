@@ -35,7 +35,7 @@ pub enum Asked<'a> {
     SumRows,
     /// The sum of the stored values.
     SumValues,
-    /// The sum of the stored values with a 1 in the bitmap.
+    /// The sum of the stored values, except those whose bit in the bitmap is 0.
     SumMasked(&'a Bitmap),
 }
 

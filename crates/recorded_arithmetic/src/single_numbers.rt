@@ -3,7 +3,7 @@
 //! - `pl_num wrapping_abs TYPE NUMBER` and `pl_num wrapping_neg TYPE NUMBER`: the function's result
 //! - `pl_num wrapping_add TYPE NUMBER NUMBER`, and in the same form `wrapping_sub`, `wrapping_mul`,
 //!   `wrapping_floor_div`, `wrapping_trunc_div`, `wrapping_mod` and `legacy_div`: the operation's
-//!   result. A division by 0 gives 0, as a quotient and as a modulus
+//!   result. The quotient and the remainder of a division by 0 are 0
 //! - `wrapping_add_number TYPE NUMBER NUMBER`: the sum of two numbers, also of the types `isize`
 //!   and `usize`
 

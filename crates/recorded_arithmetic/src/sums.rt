@@ -2,7 +2,8 @@
 //!
 //! - `wrapping_sum_arr A`: the sum of the present rows of an array
 //! - `wrapping_sum A`: the sum of the stored values, also those of null rows
-//! - `wrapping_sum_with_validity A BITS`: the sum of the stored values with a 1 in the bits
+//! - `wrapping_sum_with_validity A BITS`: the sum of the stored values, except those whose bit in
+//!   BITS is 0
 
 ghost use Rattle.recorded_text.specs.Cases.{HasGoodArrays};
 
@@ -20,9 +21,9 @@ use recorded_text::words::Words;
 use std::alloc::Global;
 use std::fmt::Display;
 
-/// Reads an operand and bits from the next words, and returns the sum of the stored values with a 1
-/// in the bits, as text. The error is `Case` if the number of bits is not the number of rows of the
-/// operand.
+/// Reads an operand and bits from the next words. Returns as text the sum of the operand's stored
+/// values, except those whose bit is 0. The error is `Case` if the number of bits is not the number
+/// of rows of the operand.
 pub fn of_masked_values(alloc: Global, store: &Store, words: &mut Words) -> Result<String, Fault>
     requires { HasGoodArrays store.now }
 {
@@ -57,8 +58,9 @@ pub fn add_values<T: WrappingSum + Display>(
     write_number(alloc, sum)
 }
 
-/// Returns the sum of the stored values of the rows `part` of an array with a 1 in `bits`, as text.
-/// The error is `Case` if the number of bits is not the number of rows of the part.
+/// Returns as text the sum of the stored values of the rows `part` of an array, except those whose
+/// bit in `bits` is 0. The error is `Case` if the number of bits is not the number of rows of the
+/// part.
 pub fn add_masked<T: WrappingSum + Display>(
     alloc: Global,
     array: &PrimitiveArray<T>,
@@ -71,8 +73,8 @@ pub fn add_masked<T: WrappingSum + Display>(
     text
 }
 
-// Returns the sum of the values with a 1 in `bits`, as text. The error is `Case` if the number of
-// bits is not the number of values.
+// Returns as text the sum of `values`, except those whose bit in `bits` is 0. The error is `Case`
+// if the number of bits is not the number of values.
 fn add_where_set<T: WrappingSum + Display>(
     alloc: Global,
     values: &[T],

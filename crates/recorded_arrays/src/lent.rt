@@ -21,8 +21,8 @@ use recorded_text::type_text::key_name;
 use recorded_text::words::Words;
 use std::alloc::Global;
 
-/// A call that returns a part of an array, or a number such as the length. `ask` shows the function
-/// for each variant.
+/// A call that returns a part of an array, or a number such as the length. Each variant has the
+/// name of its function below, except for `Len` and `NullCount`, the methods of the trait `Array`.
 #[derive(Clone, Copy)]
 pub enum Asked {
     Len,

@@ -5,8 +5,8 @@
 //!   operator applied to the bits of two windows of equal length at each index
 //! - `mask_not MASK`: the negated bits
 //! - `mask_merge_eq MASK MASK MASK`: for each row, whether two sides are equal, with null equal
-//!   only to null. The first mask says which stored values are equal; the others say which rows of
-//!   the left and the right side are present
+//!   only to null. The first mask says which stored values are equal. The second and the third say
+//!   which rows of the left and of the right side are present
 //! - `mask_merge_ne MASK MASK MASK`: for each row, whether two sides differ. Here the first mask
 //!   says which stored values differ
 //! - `to_bitmap MASK`: the bits
@@ -103,7 +103,8 @@ fn ask_all(alloc: Global, asked: Asked, operands: &[Window]) -> Result<String, F
     }
 }
 
-/// Returns the window of `n` bits from place `at` on. The error is `Case` if it is out of range.
+/// Returns the window of `bits` that has `n` bits and begins at place `at`. The error is `Case` if
+/// the window is out of range.
 pub fn window_of<'a>(bits: &'a Bitmap, at: usize, n: usize) -> Result<BitMask<'a>, Fault>
     ensures { IfOk result (λ mask. length mask ≡ n) }
 {

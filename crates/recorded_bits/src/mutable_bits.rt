@@ -248,9 +248,9 @@ fn merge_all(bits: &mut MutableBitmap, merge: Merge, present: &[Bitmap]) -> Resu
     }
 }
 
-// Merges `bits` with the masks of both sides. For `Merge::Eq`, replaces bits that say which rows
-// have equal stored values by bits that say which rows are equal. For `Merge::Ne`, both say this of
-// unequal values and rows. The error is `Case` if the lengths differ.
+// Merges `bits` with the masks of both sides. Before, the bits say which rows have equal
+// (`Merge::Eq`) or unequal (`Merge::Ne`) stored values. Afterwards, they say which rows are equal
+// or unequal. The error is `Case` if the lengths differ.
 fn merge_masks(
     bits: &mut MutableBitmap,
     merge: Merge,

@@ -4,8 +4,8 @@
 //! - `number_width TYPE`: the number of bits of a number of the type
 //! - `is_signed TYPE`: whether the type has numbers below 0
 //! - `has_wide_values TYPE`: whether the numbers of the type have more than 64 bits
-//! - `to_place TYPE OFFSET`, `place TYPE OFFSET`: the offset as a place. For a negative offset,
-//!   `to_place` returns `none`, and `place` returns an error
+//! - `to_place TYPE OFFSET`, `place TYPE OFFSET`: the offset as a place, a number of type `usize`.
+//!   For a negative offset, `to_place` returns `none`, and `place` returns an error
 //! - `to_entry TYPE KEY`: the index of the entry to which the key refers, or `none` if the key is
 //!   negative
 //! - `steps N NUMBER..`, `default_steps N NUMBER..`: the value of a new counter after the N numbers

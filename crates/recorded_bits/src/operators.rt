@@ -12,8 +12,9 @@ pub enum Operator {
     OrNot,
 }
 
-/// A merge of equal (`Eq`) or unequal (`Ne`) stored values with the masks of both sides, which
-/// finds the equal or unequal rows. Null is equal only to null.
+/// A merge of bits with the masks of two sides. The bits say which stored values are equal (`Eq`)
+/// or unequal (`Ne`), and the result says which rows are equal or unequal. Null is equal only to
+/// null.
 #[derive(Clone, Copy)]
 pub enum Merge {
     Eq,

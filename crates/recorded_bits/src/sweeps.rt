@@ -104,8 +104,8 @@ impl Sum {
     }
 }
 
-/// Returns bit `i` of the list of bits with the number `list`. The lists are endless, and always
-/// have the same bits, of which about a third are true. They do not repeat after 64 bits, the
+/// Returns bit `i` of the list of bits with the number `list`. A list has no end, and is the same
+/// in each run. About a third of its bits are true. The bits do not repeat after 64 bits, the
 /// length of a word.
 fn bit_at(i: usize, list: usize) -> bool {
     let mixed = i

@@ -6,7 +6,7 @@ use crate::question::{Answer, answer_line};
 use recorded_text::fault::Fault;
 use recorded_text::store::Store;
 
-/// The use made of the results of a file's calls.
+/// A mode of checking a file. It says how the results of the file's calls are used.
 #[derive(Clone, Copy, Debug, PartialEq, Eq)]
 pub enum Mode {
     /// Compare them with the recorded ones.

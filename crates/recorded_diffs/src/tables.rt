@@ -9,8 +9,8 @@ use diff_run::options::Options;
 use diff_run::run::{Input, run};
 use std::alloc::Global;
 
-/// Compares the tables `left` and `right`, with the columns and settings that `options` give, and
-/// returns as text the outcome or the error, and the bytes of the report.
+/// Compares the CSV tables `left` and `right`, with the columns and settings that `options` give,
+/// and returns as text the outcome or the error, and the bytes of the report.
 pub(crate) fn answer_tables(
     alloc: Global,
     options: &[&str],

@@ -1,6 +1,7 @@
 //! Kernels of two arrays of any kind.
 //!
-//! - `array_tot_eq_missing_kernel A B`, `array_tot_ne_missing_kernel A B`: the bits
+//! - `array_tot_eq_missing_kernel A B`, `array_tot_ne_missing_kernel A B`: a bit for each row: 1 if
+//!   the rows of A and B are equal, or for `ne`, if they differ. Null is equal only to null
 //! - `array_tot_eq_missing_kernel_with_steps A B`: `BITS in N comparisons`
 //! - `list_broadcast LISTS ITEMS`, `fixed_size_list_broadcast LISTS ITEMS`: a bit for each list,
 //!   masked or not: 1 if its items are exactly the rows of ITEMS
@@ -45,7 +46,7 @@ pub fn call_law(alloc: Global, law: Law) -> Result<String, Fault> {
 }
 
 // Returns the two arrays that the next two words name. The error is `Case` if there is no such
-// array, or if their types or lengths differ, since the kernels require equal ones.
+// array, or if the types or lengths of the arrays differ, since the kernels require equal ones.
 fn read_alike<'a>(
     store: &'a Store,
     words: &mut Words,
@@ -64,9 +65,9 @@ fn read_alike<'a>(
     }
 }
 
-/// Reads the names of two arrays, and returns the text of the bits of their missing equality or
-/// inequality. `relation` says which of the two. The error is `Case` if the types or lengths of the
-/// arrays differ.
+/// Reads the names of two arrays, and returns the text of a bit for each row: 1 if the two rows are
+/// equal, or for `Unequal`, if they differ. Null is equal only to null. The error is `Case` if the
+/// types or lengths of the arrays differ.
 pub fn missing(
     alloc: Global,
     relation: Relation,
@@ -82,9 +83,9 @@ pub fn missing(
     }
 }
 
-/// Reads the names of two arrays, and returns the text of the bits of their missing equality, with
-/// the number of comparisons of leaves that a lent counter has counted. The error is `Case` if the
-/// types or lengths of the arrays differ, or if the count decreased.
+/// Reads the names of two arrays. Returns the text of a bit for each row, 1 if the two rows are
+/// equal, and the number of comparisons of leaves. Null is equal only to null. The error is `Case`
+/// if the types or lengths of the arrays differ, or if the call decreased its counter.
 pub fn with_steps(alloc: Global, store: &Store, words: &mut Words) -> Result<String, Fault>
     requires { HasGoodArrays store.now }
 {

@@ -1,9 +1,9 @@
 //! Kernels of an array and a borrowed byte string or text. Their names have the prefixes `bytes_`
 //! and `text_`.
 //!
-//! - `bytes_tot_eq_kernel_broadcast ARRAY BYTES`, and so of `ne`, `lt`, `le`, `gt` and `ge`: the
-//!   bits, with `x` for masked rows
-//! - `bytes_tot_eq_missing_kernel_broadcast ARRAY BYTES`, and so of `ne`: the bits
+//! - `bytes_tot_eq_kernel_broadcast ARRAY BYTES`, and in the same form with `ne`, `lt`, `le`, `gt`
+//!   or `ge` in place of `eq`: the bits, with `x` for masked rows
+//! - `bytes_tot_eq_missing_kernel_broadcast ARRAY BYTES`, and in the same form with `ne`: the bits
 //! - `text_tot_eq_kernel_broadcast ARRAY BYTES`, and in the same form each other call, with `text_`
 //!   in place of `bytes_`: the bits for a text, which is written as its bytes
 

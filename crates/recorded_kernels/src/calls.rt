@@ -20,9 +20,10 @@ pub enum Call {
     Bytes(Question),
     /// The rows of an array, and a borrowed text.
     Text(Question),
-    /// The missing equality or inequality of two arrays of any kind.
+    /// The equality or inequality of two arrays of any kind, with null equal only to null.
     Missing(Relation),
-    /// The missing equality of two arrays of any kind, by the function that takes a counter.
+    /// The equality of two arrays of any kind, with null equal only to null, by the function that
+    /// takes a counter.
     WithSteps,
     /// The comparison of each list with all rows of an array.
     Lists(ListKind),

@@ -17,8 +17,9 @@ pub enum Question {
     Order(Order),
 }
 
-/// A kernel of equality or inequality. `Equal` and `Unequal` are raw comparisons. The other two are
-/// missing comparisons, in which the bits of null rows are defined too.
+/// A kernel of equality or inequality. `Equal` and `Unequal` are raw comparisons, whose bits are
+/// not defined for null rows. `EqualMissing` and `UnequalMissing` are missing comparisons, in which
+/// null is equal only to null.
 #[derive(Clone, Copy)]
 pub enum Equality {
     Equal,

@@ -42,6 +42,7 @@ impl<const AGREE: bool> LeafKernel for Same<AGREE> {
 
     ghost count = { λ kernel. kernel.steps };
 
+    // Returns `n` bits that are all `AGREE`, and counts `n` pairs. The error is `Memory`.
     fn leaf_eq(
         &mut self,
         alloc: Global,

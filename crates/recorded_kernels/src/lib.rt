@@ -7,9 +7,9 @@
 //! `b0:` and a digit for each bit, or `x` if the bit is not defined. An operand BITS looks alike,
 //! such as `b0:101`.
 //!
-//! In all functions that return a `Fault`, it is `Word` if a word is missing or malformed, `Case`
-//! if an array does not exist or the call does not take arrays of its kind, and `Memory` if an
-//! allocation fails. The functions name other reasons for `Case`.
+//! The `Fault` of a function is `Word` if a word is missing or malformed, `Case` if an array does
+//! not exist or the call does not take arrays of its kind, and `Memory` if an allocation fails.
+//! Comments on functions name other reasons for `Case`.
 #![tactic(auto)]
 
 ghost use Rattle.recorded_text.specs.Cases.{HasGoodArrays};

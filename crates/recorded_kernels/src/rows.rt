@@ -1,8 +1,8 @@
 //! Kernels of two arrays of one kind.
 //!
 //! - `can_compare A B`: a truth value, whether the kernels of equality can be called on A and B
-//! - `tot_eq_kernel A B`, and so of `ne`, `lt`, `le`, `gt` and `ge`: the bits, with `x` where a row
-//!   of A or B is masked
+//! - `tot_eq_kernel A B`, and in the same form with `ne`, `lt`, `le`, `gt` or `ge` in place of
+//!   `eq`: the bits, with `x` where a row of A or B is masked
 //! - `tot_eq_missing_kernel A B`, `tot_ne_missing_kernel A B`: the bits
 
 ghost use Rattle.polars_arrays_nested.specs.GoodParts.{IsGood};

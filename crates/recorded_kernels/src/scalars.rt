@@ -3,9 +3,9 @@
 //! of one list.
 //!
 //! - `can_broadcast A SCALAR`: a truth value, whether a kernel of equality can be called
-//! - `tot_eq_kernel_broadcast A SCALAR`, and so of `ne`, `lt`, `le`, `gt` and `ge`: the bits, with
-//!   `x` for masked rows
-//! - `tot_eq_missing_kernel_broadcast A SCALAR`, and so of `ne`: the bits
+//! - `tot_eq_kernel_broadcast A SCALAR`, and in the same form with `ne`, `lt`, `le`, `gt` or `ge`
+//!   in place of `eq`: the bits, with `x` for masked rows
+//! - `tot_eq_missing_kernel_broadcast A SCALAR`, and in the same form with `ne`: the bits
 //!
 //! Arrays of nulls, structs or dictionary entries have no broadcasts. For them, a kernel of
 //! equality gives `refused: not supported`, although `can_broadcast` gives `true`.

@@ -34,8 +34,8 @@ use recorded_text::store::Store;
 use recorded_text::words::Words;
 use std::alloc::Global;
 
-/// Reads two windows, and compares their stored rows. `compared` says of which kind the arrays are.
-/// Returns the text of the bits; for views, also of the number of pairs looked up in buffers. The
+/// Reads two windows, and compares their stored rows. `compared` selects the kind of the arrays.
+/// Returns the text of the bits, and for views also the number of pairs looked up in buffers. The
 /// error is `Case` if the arrays are of another kind, or a window is out of range.
 pub fn ask_windows<C: TruthComparison + ByteComparison + ViewComparison>(
     alloc: Global,

@@ -9,7 +9,8 @@
 //! - `view_comparison_bytes COMPARISON A i BYTES`: a truth value
 //! - `tot_eq_kernel_followed A B`, `tot_lt_kernel_followed A B`: `BITS in N`. Masked rows are
 //!   compared by their stored values
-//! - `followed A B`: the numbers N of these two kernels, separated by a space
+//! - `followed A B`: the number N of `tot_eq_kernel_followed`, and that of
+//!   `tot_lt_kernel_followed`, separated by a space
 //! - `scalar_row_len BYTES`, `scalar_row_bytes BYTES`, `scalar_row_prefix BYTES`: the length, the
 //!   bytes, or the prefix of the view of a byte string that is prepared as a `ScalarRow`
 
@@ -37,8 +38,8 @@ use recorded_text::store::Store;
 use recorded_text::words::Words;
 use std::alloc::Global;
 
-/// A call on rows of arrays of views, or on a prepared byte string. A comment gives the operands of
-/// the variants from there to the next comment.
+/// A call on rows of arrays of views, or on a prepared byte string. The comment above a group of
+/// variants gives their operands.
 #[derive(Clone, Copy)]
 pub enum Asked {
     /// Two rows.

@@ -1,8 +1,8 @@
 //! Windows of two arrays of any kind: `n` rows from row `a` on of the left array and from row `b`
 //! on of the right one.
 //!
-//! - `array_tot_eq_missing_kernel_counted A B [LEAVES]`, and so of `ne`, for all rows of two
-//!   arrays: `BITS in N comparisons`
+//! - `array_tot_eq_missing_kernel_counted A B [LEAVES]`, and in the same form with `ne` in place of
+//!   `eq`, for all rows of two arrays: `BITS in N comparisons`
 //! - `equal_windows A a B b n [LEAVES]`: `BITS in N comparisons`
 //! - `eq_lists`, `eq_fixed_size_lists`, `eq_structs`, `eq_dictionaries`, `leaf_eq`, with the
 //!   operands of `equal_windows`: `BITS in N comparisons`, with `x` for masked rows

@@ -69,7 +69,8 @@ pub enum Extremes {
     MinMaxPropagate,
 }
 
-/// The part that is returned of the best byte string of an array: the least or the greatest one.
+/// The part of the best byte string of an array that a call returns. The best one is the least or
+/// the greatest.
 #[derive(Clone, Copy)]
 pub enum Best {
     /// The index of its row.

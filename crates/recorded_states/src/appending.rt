@@ -106,8 +106,8 @@ fn append_copies<S: RecordedState>(
     Ok(())
 }
 
-// Clones the arrays of `store` that `names` lists. The error is `Case` if there is no array of a
-// name, or if it is not of the kind that `S` accepts, or else `Memory`.
+// Clones the arrays of `store` that `names` lists. The error is `Case` if a name has no array, or
+// if its array is not of the kind that `S` accepts, or else `Memory`.
 fn copy_all<S: RecordedState>(
     alloc: Global,
     store: &Store,

@@ -40,8 +40,8 @@ pub fn rows_named<'a, S: RecordedState>(store: &'a Store, name: &str) -> Result<
 }
 
 /// Appends the arrays of `store` that `names` lists to `state`, in this order. The error is `Case`
-/// if there is no array of a name, if it is of the wrong kind, or if the state does not accept it.
-/// The arrays before it stay appended.
+/// if a name has no array, or if its array is of the wrong kind or not accepted by the state. The
+/// arrays before this name stay appended.
 pub fn append_named<S: RecordedState>(
     state: &mut S,
     store: &Store,
@@ -79,8 +79,8 @@ pub fn if_done<S: RecordedState>(state: S, done: Result<(), Fault>) -> Result<S,
     }
 }
 
-/// Creates the state of a column, and appends the arrays of the column. The first of `words` give
-/// the range of the state, and the others name the arrays. The errors are those of `N::read` and
+/// Creates the state of a column, and appends the arrays of the column. `words` are first those of
+/// the range of the state, and then the names of the arrays. The errors are those of `N::read` and
 /// `gathered`.
 pub fn read_state<N: NewStates>(
     alloc: Global,

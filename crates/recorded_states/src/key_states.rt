@@ -196,8 +196,8 @@ fn end(
     Ok(array)
 }
 
-// Creates a state of `range`, and appends `array` to it. The error is `Case` if there is no such
-// state, or if it does not accept the array, or else `Memory`.
+// Creates a state of `range`, and appends `array` to it. The error is `Case` if no state of the
+// range can be created, or if the state does not accept the array, or else `Memory`.
 fn state_of(
     alloc: Global,
     range: &Entries,

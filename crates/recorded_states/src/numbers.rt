@@ -20,8 +20,8 @@ macro_rules! rows_in {
 
 pub(crate) use rows_in;
 
-/// A number type of which there are states. Lines can hold its numbers as text, and an `AnyArray`
-/// of one kind holds them.
+/// A number type for which there are states of distinct values. Numbers of this type can be read
+/// from words, and one kind of `AnyArray` holds them.
 pub trait RecordedNumber: UniqueNumber + Display + FromStr<Err: Drop> {
     /// Returns the array that `any` holds, if its numbers are of this type. The error is `Case` if
     /// they are not.

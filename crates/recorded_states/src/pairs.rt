@@ -92,8 +92,8 @@ fn counted<N: NewStates<State: CountedState>>(
 }
 
 // Appends the arrays that `names` lists to `state`, and the number of rows read of each to `text`,
-// separated by spaces. The error is `Case` if there is no array of a name, if it is of the wrong
-// kind, or if the state does not accept it. Otherwise the error is `Memory`.
+// separated by spaces. The error is `Case` if a name has no array, or if its array is of the wrong
+// kind or not accepted by the state. Otherwise the error is `Memory`.
 fn push_steps<S: CountedState>(
     text: &mut String,
     state: &mut S,

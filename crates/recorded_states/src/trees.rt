@@ -134,7 +134,7 @@ fn take_only<S: RecordedState>(trees: &mut Vec<MergeTree<S>>) -> Result<MergeTre
 }
 
 // Reads trees from all of `words`, with leaves as `leaves` says, and appends them to `trees`. A `+`
-// joins the last two trees read so far. The error is `Word` if there are fewer than two, or else
+// joins the last two of `trees`. The error is `Word` if there are fewer than two at a `+`, or else
 // that of `read_leaf`, or `Memory`.
 fn read_trees<N: NewStates>(
     alloc: Global,

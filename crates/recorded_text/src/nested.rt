@@ -1,11 +1,11 @@
 //! Functions that read arrays of any kind.
 //!
 //! In all of them, `kept` says whether the parts of an array own their elements or share them with
-//! clones. `depth` is the greatest number of levels of lists, structs and dictionaries, counted
-//! from the array that is read in `read_array` and `read_whole`, and from the arrays inside it in
-//! other functions. The errors of reading are `Word` if a word is missing or wrong, `Parts` if the
-//! parts make no array, `Depth` if the array is nested too deeply, and `Memory` if an allocation
-//! fails.
+//! clones. In `read_array` and `read_whole`, `depth` is the greatest number of levels of lists,
+//! structs and dictionaries in the array that is read. In other functions, it is the greatest
+//! number of such levels in the arrays inside that array. The errors of reading are `Word` if a
+//! word is missing or wrong, `Parts` if the parts make no array, `Depth` if the array is nested too
+//! deeply, and `Memory` if an allocation fails.
 
 ghost use Rattle.std.specs.Prelude.{IfOk};
 ghost use Rattle.std.specs.List.{All};
@@ -46,8 +46,8 @@ pub fn read_any(alloc: Global, words: &mut Words) -> Result<AnyArray, Fault>
 }
 
 // Reads an array: the index of its first row, its number of rows, its kind, and the parts of the
-// kind. The parts may have more rows than the array. The error is `Word` if they do not have all
-// rows of the array.
+// kind. The parts may have more rows than the array. The error is `Word` if the parts do not have
+// all rows of the array.
 #[cycle(read)]
 fn read_array(alloc: Global, kept: Kept, words: &mut Words, depth: usize) -> Result<AnyArray, Fault>
     ensures { IfOk result (λ a. IsGood a) }

@@ -31,9 +31,9 @@ pub const FAR_LEVELS: usize = 100_000;
 /// Reads a number of levels, a word with the kinds of the levels separated by commas, and an array,
 /// and wraps the array in the levels. The first kind is that of the outermost level. If there are
 /// fewer kinds than levels, the kinds are repeated; kinds in excess of the levels are ignored. The
-/// error is `Depth` if there are more than `most` levels, `Word` if a word is missing or wrong, a
-/// level has an unknown kind, or a level would need a number above the greatest `i32`, and
-/// otherwise as in `read_any`.
+/// error is `Depth` if there are more than `most` levels. It is `Word` if a word is missing or
+/// wrong, if a kind is unknown, or if a level would need a number above the greatest `i32`. Other
+/// errors are those of `read_any`.
 pub fn read_wrapped(alloc: Global, words: &mut Words, most: usize) -> Result<AnyArray, Fault>
     ensures { IfOk result (λ a. IsGood a) }
 {
