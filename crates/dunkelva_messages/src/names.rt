@@ -26,7 +26,7 @@ impl<'a> QuotedName<'a> {
     /// Keeps the first characters of `name` that have at most `most` bytes together. No character
     /// is split.
     fn cut(name: &'a str, most: usize) -> QuotedName<'a> {
-        let start = name.get(..name.floor_char_boundary(most)).unwrap_or("");
+        let start = &name[..name.floor_char_boundary(most)];
         QuotedName {
             start,
             is_cut: start.len() < name.len(),

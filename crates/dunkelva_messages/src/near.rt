@@ -6,19 +6,12 @@ const MOST_OTHER: usize = 2;
 /// The least number of bytes that similar names have in common.
 const LEAST_COMMON: usize = 2;
 
-/// Returns `byte` with an ASCII letter in lower case, and a hyphen for an underscore.
-fn folded(byte: u8) -> u8 {
-    match byte {
-        b'_' => b'-',
-        other => other.to_ascii_lowercase(),
-    }
-}
-
 /// Returns whether both bytes are given and equal. The case of ASCII letters does not count, and a
 /// hyphen and an underscore are equal.
 fn are_alike(one: Option<&u8>, other: Option<&u8>) -> bool {
     match (one, other) {
-        (Some(one), Some(other)) => folded(*one) == folded(*other),
+        (Some(b'-' | b'_'), Some(b'-' | b'_')) => true,
+        (Some(one), Some(other)) => one.eq_ignore_ascii_case(other),
         _ => false,
     }
 }
