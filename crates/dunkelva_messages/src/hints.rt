@@ -7,19 +7,37 @@ use crate::slips::slip_at;
 use std::fs;
 use std::io::Read;
 
+/// The hint for UTF-16 text that begins with a byte order mark.
+const UTF_16: &str = "it is UTF-16: convert it, as in <(iconv -f UTF-16 -t UTF-8 FILE)";
+
+/// The first bytes of files of known formats that are not UTF-8 text, each with a hint.
+const FORMATS: [(&[u8], &str); 6] = [
+    (
+        b"\x1f\x8b",
+        "it is compressed by gzip: unpack it, as in <(zcat FILE)",
+    ),
+    (
+        b"\x28\xb5\x2f\xfd",
+        "it is compressed by zstd: unpack it, as in <(zstdcat FILE)",
+    ),
+    (
+        b"PK\x03\x04",
+        "it is a zip archive, as spreadsheets are: save it as CSV",
+    ),
+    (b"PAR1", "it is Parquet: save it as CSV"),
+    (b"\xff\xfe", UTF_16),
+    (b"\xfe\xff", UTF_16),
+];
+
 /// Returns a hint if `head`, at most the first four bytes of a file, shows a known format that is
 /// not UTF-8 text, such as gzip, and else `None`.
 fn format_hint(head: &[u8]) -> Option<&'static str> {
-    match head {
-        [0x1f, 0x8b, ..] => Some("it is compressed by gzip: unpack it, as in <(zcat FILE)"),
-        [0x28, 0xb5, 0x2f, 0xfd] => Some(
-            "it is compressed by zstd: unpack it, as in <(zstdcat FILE)",
-        ),
-        [b'P', b'K', 3, 4] => Some("it is a zip archive, as spreadsheets are: save it as CSV"),
-        [b'P', b'A', b'R', b'1'] => Some("it is Parquet: save it as CSV"),
-        [0xff, 0xfe, ..] | [0xfe, 0xff, ..] => {
-            Some("it is UTF-16: convert it, as in <(iconv -f UTF-16 -t UTF-8 FILE)")
+    for (start, hint) in &FORMATS {
+        if head.starts_with(start) {
+            return Some(*hint);
         }
+    }
+    match head {
         [(1..), 0, (1..), 0] => {
             Some("it is UTF-16: convert it, as in <(iconv -f UTF-16LE -t UTF-8 FILE)")
         }
@@ -71,18 +89,11 @@ const DELIMITERS: [(char, &str); 5] = [
     ('\u{1}', "is the byte 1 the --delimiter? It is \\x01"),
 ];
 
-/// Returns the first line of the regular file `file`, without the line feed. Returns `None` if the
-/// line can't be read again or is not UTF-8.
-fn first_line(rt: &HostRuntime, file: &str) -> Option<String> {
-    String::from_utf8(line_bytes(rt, file, 1)?).ok()
-}
-
 /// Returns whether `line` tells a spreadsheet the delimiter, as `sep=;` does. A byte order mark
 /// before it and a carriage return after it do not count.
 fn names_delimiter(line: &str) -> bool {
     let line = line.trim_start_matches('\u{feff}').trim_end_matches('\r');
-    line.strip_prefix("sep=")
-        .is_some_and(|rest| rest.len() == 1)
+    matches!(line.strip_prefix("sep="), Some(rest) if rest.len() == 1)
 }
 
 /// The hint for a file whose first line tells a spreadsheet the delimiter.
@@ -92,17 +103,19 @@ const NO_RECORD: &str =
 /// Returns a hint if the first line of the regular file `file` tells a spreadsheet the delimiter.
 /// Otherwise, or if the line can't be read again, returns `None`.
 pub fn first_line_hint(rt: &HostRuntime, file: &str) -> Option<&'static str> {
-    names_delimiter(&first_line(rt, file)?).then_some(NO_RECORD)
+    let first = line_bytes(rt, file, 1)?;
+    names_delimiter(str::from_utf8(&first).ok()?).then_some(NO_RECORD)
 }
 
 /// Returns a hint for the regular file `file`, whose first record has to have a single field. The
 /// hint asks whether a character in the first line is the delimiter. Returns `None` if the line has
 /// none of the characters in `DELIMITERS`, or can't be read again.
 fn delimiter_hint(rt: &HostRuntime, file: &str) -> Option<&'static str> {
-    let first = first_line(rt, file)?;
-    for (delimiter, question) in DELIMITERS {
-        if first.contains(delimiter) {
-            return Some(question);
+    let bytes = line_bytes(rt, file, 1)?;
+    let first = str::from_utf8(&bytes).ok()?;
+    for (delimiter, question) in &DELIMITERS {
+        if first.contains(*delimiter) {
+            return Some(*question);
         }
     }
     None
@@ -152,7 +165,11 @@ fn lengths_hint(rt: &HostRuntime, file: &str, lengths: Lengths) -> Option<&'stat
     {
         return Some(question);
     }
-    (lengths.found > lengths.expected).then(|| record_hint(rt, file, lengths))
+    if lengths.found > lengths.expected {
+        Some(record_hint(rt, file, lengths))
+    } else {
+        None
+    }
 }
 
 /// Returns a hint for an NDJSON file whose first line, `text`, is not a document, or `None` if no
@@ -227,7 +244,7 @@ fn what_input_is(rt: &HostRuntime, name: &str) -> Option<&'static str> {
 /// known.
 pub fn explained(rt: &HostRuntime, error: Error, files: &[&str]) -> Error {
     for file in files {
-        let is_of_other = error.file().is_some_and(|name| name != *file);
+        let is_of_other = matches!(error.file(), Some(name) if name != *file);
         if let Some(what) = what_input_is(rt, file)
             && !is_of_other
         {

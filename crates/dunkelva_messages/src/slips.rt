@@ -21,9 +21,9 @@ const STARTS: [(&str, &str); 11] = [
 
 /// Returns the hint for `rest` if it begins with one of `STARTS`, and else `None`.
 fn start_hint(rest: &str) -> Option<&'static str> {
-    for (start, hint) in STARTS {
-        if rest.starts_with(start) {
-            return Some(hint);
+    for (start, hint) in &STARTS {
+        if rest.starts_with(*start) {
+            return Some(*hint);
         }
     }
     None
@@ -31,7 +31,7 @@ fn start_hint(rest: &str) -> Option<&'static str> {
 
 /// Returns whether a text begins with a decimal digit.
 fn begins_with_digit(text: &str) -> bool {
-    text.starts_with(|c: char| c.is_ascii_digit())
+    matches!(text.as_bytes(), [b'0'..=b'9', ..])
 }
 
 /// Returns the hint for `rest` if it begins with a number that JSON does not allow: one that has a
@@ -52,7 +52,7 @@ fn number_hint(rest: &str) -> Option<&'static str> {
 /// `01`.
 fn has_leading_zero(rest: &str) -> bool {
     let number = rest.strip_prefix('-').unwrap_or(rest);
-    number.strip_prefix('0').is_some_and(begins_with_digit)
+    matches!(number.as_bytes(), [b'0', b'0'..=b'9', ..])
 }
 
 /// The greatest depth to which arrays and objects nest in a document.
