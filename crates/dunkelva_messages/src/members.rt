@@ -1,21 +1,22 @@
 //! Hints with the names in a document that lacks a part of the key.
 
-use crate::error::Result;
 use crate::lines::line_bytes;
 use crate::names::{MOST_NAMES, push_more, push_name, quoted};
 use crate::near;
 use json::{Scratch, Value};
-use std::alloc::Global;
+use std::alloc::{AllocError, Global};
 
-/// Returns a text that lists the names of the first `members` of a document, at most `MOST_NAMES`,
-/// and says how many more there are. Fails if an allocation fails.
-fn list_of(alloc: Global, members: &[(&str, Value<'_>)]) -> Result<String> {
-    let mut list = String::new(alloc);
+/// Appends the names of the first `members` of a document to `text`, at most `MOST_NAMES`, and says
+/// how many more there are. Fails if an allocation fails.
+fn push_members(
+    text: &mut String,
+    alloc: Global,
+    members: &[(&str, Value<'_>)],
+) -> Result<(), AllocError> {
     for (i, (name, _)) in members.iter().take(MOST_NAMES).enumerate() {
-        push_name(&mut list, alloc, name.as_bytes(), i == 0)?;
+        push_name(text, alloc, name.as_bytes(), i == 0)?;
     }
-    push_more(&mut list, alloc, members.len().saturating_sub(MOST_NAMES))?;
-    Ok(list)
+    push_more(text, alloc, members.len().saturating_sub(MOST_NAMES))
 }
 
 /// Returns 0 if two names are equal, and else one more than `near::distance`. Returns `None` if the
@@ -104,12 +105,20 @@ fn is_foreign(path: &str) -> bool {
 fn in_dots(alloc: Global, path: &str) -> Option<String> {
     let path = path.strip_prefix('$').unwrap_or(path);
     let path = path.strip_prefix('/').unwrap_or(path);
-    let mut dotted = String::new(alloc);
-    for (i, name) in path.split('/').enumerate() {
-        dotted.push_str(if i == 0 { "" } else { "." }).ok()?;
-        dotted.push_str(name).ok()?;
+    path.replace(alloc, '/', ".").ok()
+}
+
+/// Returns the hint of `hint_in` up to the names of the members. Returns `None` if an allocation
+/// fails.
+fn start_of(alloc: Global, document: &Value<'_>, path: &str) -> Option<String> {
+    match path_near(alloc, document, &in_dots(alloc, path)?) {
+        Some(near) => {
+            let near = quoted(&near);
+            format!(in alloc; "did you mean {near}? The document has ").ok()
+        }
+        None if is_foreign(path) => { format!(in alloc; "{NOTATION}, and the document has ").ok() }
+        None => String::from_str(alloc, "the document has ").ok(),
     }
-    Some(dotted)
 }
 
 /// Returns a hint about `path`, which leads to no part of `document`. The hint lists the names of
@@ -123,17 +132,9 @@ fn hint_in(alloc: Global, document: &Value<'_>, path: &str) -> Option<String> {
     if members.is_empty() {
         return None;
     }
-    let list = list_of(alloc, members).ok()?;
-    match path_near(alloc, document, &in_dots(alloc, path)?) {
-        Some(near) => {
-            let near = quoted(&near);
-            format!(in alloc; "did you mean {near}? The document has {list}").ok()
-        }
-        None if is_foreign(path) => {
-            format!(in alloc; "{NOTATION}, and the document has {list}").ok()
-        }
-        None => format!(in alloc; "the document has {list}").ok(),
-    }
+    let mut hint = start_of(alloc, document, path)?;
+    push_members(&mut hint, alloc, members).ok()?;
+    Some(hint)
 }
 
 /// Reads line `line` of the regular file `file` again, and returns the hint of `hint_in` about

@@ -1,7 +1,6 @@
 //! Names in messages.
 
-use crate::error::Result;
-use std::alloc::Global;
+use std::alloc::{AllocError, Global};
 use std::fmt;
 use std::fmt::{Display, Formatter};
 
@@ -49,23 +48,25 @@ pub fn quoted(name: &str) -> QuotedName<'_> {
 /// Appends `name` in quotes to the list `text`, after a comma unless `is_first`. A name of more
 /// than 60 bytes is cut. For a name that is not UTF-8, appends `one that is not UTF-8`. Fails if an
 /// allocation fails.
-pub fn push_name(text: &mut String, alloc: Global, name: &[u8], is_first: bool) -> Result<()> {
-    let comma = if is_first { "" } else { ", " };
-    text.push_str(comma)?;
+pub fn push_name(
+    text: &mut String,
+    alloc: Global,
+    name: &[u8],
+    is_first: bool,
+) -> Result<(), AllocError> {
+    text.push_str(if is_first { "" } else { ", " })?;
     let Ok(name) = str::from_utf8(name) else {
-        text.push_str("one that is not UTF-8")?;
-        return Ok(());
+        return text.push_str("one that is not UTF-8");
     };
     let name = QuotedName::cut(name, MOST_BYTES);
-    text.push_str(&format!(in alloc; "{name}")?)?;
-    Ok(())
+    text.push_str(&format!(in alloc; "{name}")?)
 }
 
 /// Appends ` and N more` to the list `text`, where N is `more`, the number of names that the list
 /// leaves out. Appends nothing if `more` is 0. Fails if an allocation fails.
-pub fn push_more(text: &mut String, alloc: Global, more: usize) -> Result<()> {
-    if more > 0 {
-        text.push_str(&format!(in alloc; " and {more} more")?)?;
+pub fn push_more(text: &mut String, alloc: Global, more: usize) -> Result<(), AllocError> {
+    if more == 0 {
+        return Ok(());
     }
-    Ok(())
+    text.push_str(&format!(in alloc; " and {more} more")?)
 }
