@@ -2,6 +2,7 @@
 
 use crate::options::{CliOption, Takes, options};
 use crate::schema_command::schema_command;
+use clap::builder::ValueParser;
 use clap::{Arg, ArgAction, Command};
 use std::alloc::{AllocError, Global};
 
@@ -21,114 +22,116 @@ and --sorted are for CSV alone; --missing-is-null, --no-key-is-null and
 The status is 0 where the files are the same, 1 where they differ, and 2 where
 they can't be compared.";
 
-/// Returns `arg`, set to accept the values that `takes` describes. A number may be negative, and an
-/// option that takes `Texts` or a `List` may be given several times.
-fn taking<'a>(arg: Arg<'a>, takes: Takes) -> Arg<'a> {
+/// Returns what the parser does with the values of an option that takes `takes`. An option that
+/// takes `Texts` or a `List` may be given several times.
+fn action_of(takes: Takes) -> ArgAction {
     match takes {
-        Takes::Nothing => arg.action(ArgAction::SetTrue),
-        Takes::Text => arg,
-        Takes::Number => arg.allow_negative_numbers(true),
-        Takes::Word(words) => arg.value_parser(words),
-        Takes::Texts | Takes::List => arg.action(ArgAction::Append),
+        Takes::Nothing => ArgAction::SetTrue,
+        Takes::Texts | Takes::List => ArgAction::Append,
+        _ => ArgAction::Set,
+    }
+}
+
+/// Returns the parser of the values of an option that takes `takes`.
+fn parser_of(takes: Takes) -> ValueParser<'static> {
+    match takes {
+        Takes::Nothing => ValueParser::bool(),
+        Takes::Word(words) => ValueParser::from(words),
+        _ => ValueParser::string(),
     }
 }
 
 /// Creates the argument by which the parser reads `option`. The parser does not check the fields
-/// `refuses` and `goes_with`.
-fn arg_of<'a>(alloc: Global, option: CliOption) -> Result<Arg<'a>, AllocError> {
-    let mut arg = taking(Arg::new(alloc, option.id), option.takes)
+/// `refuses` and `goes_with`. A number may be negative.
+fn arg_of<'a>(alloc: Global, option: &CliOption) -> Result<Arg<'a>, AllocError> {
+    let arg = Arg::new(alloc, option.id)
         .long(option.id)
-        .help(option.help);
-    if let Some(letter) = option.short {
-        arg = arg.short(letter);
-    }
-    if !matches!(option.takes, Takes::Nothing) {
-        arg = arg.value_name(option.value);
-    }
-    if let Some(word) = option.default {
-        arg = arg.default_value(word);
-    }
-    for other in option.excludes {
-        arg = arg.conflicts_with(*other)?;
-    }
-    match option.needs {
-        Some(other) => arg.requires_arg(other),
+        .value_name(option.value)
+        .help(option.help)
+        .action(action_of(option.takes))
+        .value_parser(parser_of(option.takes))
+        .allow_negative_numbers(matches!(option.takes, Takes::Number))
+        .default_values(option.default)
+        .conflicts_with_all(option.excludes)?
+        .requires_all(option.needs)?;
+    match option.short {
+        Some(letter) => Ok(arg.short(letter)),
         None => Ok(arg),
     }
 }
 
-/// Creates the positional argument `id` for an input, which is a file or standard input. `name` and
-/// `help` appear in the help text. The argument is required unless `--config` is given.
-fn input<'a>(
-    alloc: Global,
-    id: &'a str,
-    name: &'a str,
-    help: &'a str,
-) -> Result<Arg<'a>, AllocError> {
-    Arg::new(alloc, id)
-        .value_name(name)
-        .help(help)
-        .required_unless_present("config")
+/// A positional argument for an input, which is a file or standard input.
+pub(crate) struct CliInput {
+    /// The name by which the argument is found after parsing.
+    pub(crate) id: &'static str,
+    /// The name in the help text.
+    pub(crate) name: &'static str,
+    /// The description in the help text.
+    pub(crate) help: &'static str,
+    /// The options in place of which the argument may be left out. If there are none, the argument
+    /// is required.
+    pub(crate) unless: &'static [&'static str],
 }
 
-/// Adds a positional argument for an input to `command`. The other parameters are those of `input`.
-fn with_input<'a>(
-    alloc: Global,
-    command: Command<'a>,
-    id: &'a str,
-    name: &'a str,
-    help: &'a str,
-) -> Result<Command<'a>, AllocError> {
-    command.arg(input(alloc, id, name, help)?)
+/// Creates the positional argument by which the parser reads `input`.
+fn input_of<'a>(alloc: Global, input: &CliInput) -> Result<Arg<'a>, AllocError> {
+    Arg::new(alloc, input.id)
+        .value_name(input.name)
+        .help(input.help)
+        .required(input.unless.is_empty())
+        .required_unless_present_any(input.unless)
 }
 
-/// Adds the argument of `option` to `command`.
-pub(crate) fn with_option<'a>(
+/// Creates the arguments by which the parser reads `inputs` and `options`, in order.
+pub(crate) fn args_of<'a>(
     alloc: Global,
-    command: Command<'a>,
-    option: CliOption,
-) -> Result<Command<'a>, AllocError> {
-    command.arg(arg_of(alloc, option)?)
-}
-
-/// Adds the arguments of `options` to `command`, in order.
-fn with_options<'a>(
-    alloc: Global,
-    command: Command<'a>,
+    inputs: &[CliInput],
     options: &[CliOption],
-) -> Result<Command<'a>, AllocError> {
-    let mut command = command;
-    for option in options {
-        command = with_option(alloc, command, *option)?;
+) -> Result<Vec<Arg<'a>>, AllocError> {
+    let mut args = Vec::new(alloc);
+    for input in inputs {
+        args.push(input_of(alloc, input)?)?;
     }
-    Ok(command)
+    for option in options {
+        args.push(arg_of(alloc, option)?)?;
+    }
+    Ok(args)
 }
+
+/// The input files of `dunkelva diff`.
+const INPUTS: [CliInput; 2] = [
+    CliInput {
+        id: "left",
+        name: "LEFT",
+        help: "The first file, or - for standard input",
+        unless: &["config"],
+    },
+    CliInput {
+        id: "right",
+        name: "RIGHT",
+        help: "The second file, or - for standard input",
+        unless: &["config"],
+    },
+];
 
 /// Creates the command `dunkelva diff`, which compares two files.
 fn diff<'a>(alloc: Global) -> Result<Command<'a>, AllocError> {
-    let command = Command::new(alloc, "diff")
+    let args = args_of(alloc, &INPUTS, options())?;
+    Command::new(alloc, "diff")
         .about("Compares two CSV or NDJSON files by key, and prints what differs")
-        .after_help(NOTES);
-    let first = "The first file, or - for standard input";
-    let command = with_input(alloc, command, "left", "LEFT", first)?;
-    let second = "The second file, or - for standard input";
-    let command = with_input(alloc, command, "right", "RIGHT", second)?;
-    with_options(alloc, command, options())
-}
-
-/// Adds the subcommand `dunkelva schema`, which prints the schema of a file, to `command`.
-fn with_schema<'a>(alloc: Global, command: Command<'a>) -> Result<Command<'a>, AllocError> {
-    command.subcommand(schema_command(alloc)?)
+        .after_help(NOTES)
+        .args(args)
 }
 
 /// Creates the parser of the program's command line, with the subcommands `diff` and `schema`.
 pub fn command<'a>(alloc: Global) -> Result<Command<'a>, AllocError> {
     let diff = diff(alloc)?;
-    let command = Command::new(alloc, "dunkelva")
+    let schema = schema_command(alloc)?;
+    Command::new(alloc, "dunkelva")
         .version(VERSION)
         .about("Compares tables and documents exactly")
         .subcommand_required(true)
         .arg_required_else_help(true)
-        .subcommand(diff)?;
-    with_schema(alloc, command)
+        .subcommand(diff)?
+        .subcommand(schema)
 }

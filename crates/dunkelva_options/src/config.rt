@@ -6,7 +6,7 @@
 //! The functions that take `alloc` or `rt` also fail if an allocation fails.
 
 use crate::given::{is_given, split_word};
-use crate::options::{CliOption, Takes, options};
+use crate::options::{CliOption, Takes, find_option, options};
 use crate::refusals::{advice_of_name, form_advice};
 use dunkelva_messages::error::{Error, Result};
 use dunkelva_messages::names::quoted;
@@ -240,12 +240,10 @@ const CONFIG: &str = "config";
 /// Returns whether a config file may set `name`: an option other than `config`, or `left` or
 /// `right`.
 fn is_known(name: &str) -> bool {
-    for option in options() {
-        if option.id == name {
-            return name != CONFIG;
-        }
+    match find_option(name) {
+        Some(_) => name != CONFIG,
+        None => name == "left" || name == "right",
     }
-    name == "left" || name == "right"
 }
 
 /// Returns the name of the option that is most similar to `name` (`distance`), or `None` if no

@@ -39,10 +39,10 @@ pub struct CliOption {
     pub takes: Takes,
     /// The name of the value in the help text.
     pub value: &'static str,
-    /// The value if the option is not given.
-    pub default: Option<&'static str>,
-    /// Another option that has to be given with this one.
-    pub needs: Option<&'static str>,
+    /// The value if the option is not given: one, or none.
+    pub default: &'static [&'static str],
+    /// Other options that have to be given with this one.
+    pub needs: &'static [&'static str],
     /// The options that can't be given together with this one. The parser refuses them.
     pub excludes: &'static [&'static str],
     /// More options that must not be given beside this one. The parser does not check this. If a
@@ -62,8 +62,8 @@ const SWITCH: CliOption = CliOption {
     short: None,
     takes: Takes::Nothing,
     value: "",
-    default: None,
-    needs: None,
+    default: &[],
+    needs: &[],
     excludes: &[],
     refuses: &[],
     goes_with: GoesWith::Both,
@@ -119,7 +119,7 @@ static OPTIONS: [CliOption; 27] = [
     },
     CliOption {
         id: "unique",
-        needs: Some("key"),
+        needs: &["key"],
         help: "A key that comes twice in a file is an error",
         ..SWITCH
     },
@@ -139,7 +139,7 @@ static OPTIONS: [CliOption; 27] = [
         id: "text",
         takes: Takes::List,
         value: "COLUMNS",
-        needs: Some("numbers"),
+        needs: &["numbers"],
         goes_with: GoesWith::Tables,
         help: "With --numbers, compare these columns as text",
         ..SWITCH
@@ -210,13 +210,13 @@ static OPTIONS: [CliOption; 27] = [
         id: "partition",
         takes: Takes::Text,
         value: "I/N",
-        needs: Some("key"),
+        needs: &["key"],
         help: "Compare part I of N of the rows or documents, by key; all N parts are the whole",
         ..SWITCH
     },
     CliOption {
         id: "sorted",
-        needs: Some("key"),
+        needs: &["key"],
         goes_with: GoesWith::Tables,
         help: "Both files are sorted by key, byte by byte: keep a few rows of each in memory",
         ..SWITCH
@@ -225,7 +225,7 @@ static OPTIONS: [CliOption; 27] = [
         id: "limit",
         takes: Takes::Number,
         value: "N",
-        default: Some("20"),
+        default: &["20"],
         help: "Print at most N differences, in JSON too; 0 prints all",
         ..SWITCH
     },
@@ -244,7 +244,7 @@ static OPTIONS: [CliOption; 27] = [
         id: "format",
         takes: Takes::Word(&["text", "json"]),
         value: "FORM",
-        default: Some("text"),
+        default: &["text"],
         help: "Print lines to read, or a JSON object in each line; both stop at 20 without --limit",
         ..SWITCH
     },
@@ -252,7 +252,7 @@ static OPTIONS: [CliOption; 27] = [
         id: "color",
         takes: Takes::Word(&["auto", "always", "never"]),
         value: "WHEN",
-        default: Some("auto"),
+        default: &["auto"],
         help: "Print in colours; auto does on a terminal, unless NO_COLOR is set",
         ..SWITCH
     },
@@ -292,13 +292,21 @@ pub fn options() -> &'static [CliOption] {
     &OPTIONS
 }
 
+/// Returns the option with the name `id`, or `None` if there is no such option.
+pub(crate) fn find_option(id: &str) -> Option<&'static CliOption> {
+    for option in options() {
+        if option.id == id {
+            return Some(option);
+        }
+    }
+    None
+}
+
 /// Returns the names of the options that the option `id` refuses (its field `refuses`), or an empty
 /// slice if there is no such option.
 pub fn refused_by(id: &str) -> &'static [&'static str] {
-    for option in options() {
-        if option.id == id {
-            return option.refuses;
-        }
+    match find_option(id) {
+        Some(option) => option.refuses,
+        None => &[],
     }
-    &[]
 }

@@ -1,7 +1,7 @@
 //! Advice after errors of the command line.
 
 use crate::given::is_among;
-use crate::options::options;
+use crate::options::{find_option, options};
 use clap::error::ErrorKind;
 use std::alloc::{AllocError, Global};
 use std::fs;
@@ -218,13 +218,8 @@ pub(crate) fn advice_of_name(name: &str) -> Option<&'static str> {
 /// `-key=id`. Returns `None` if `word` has no hyphen at its beginning, or if there is no such
 /// option.
 fn after_one_hyphen(word: &str) -> Option<&'static str> {
-    let name = option_in(word.strip_prefix('-')?);
-    for option in options() {
-        if option.id == name {
-            return Some(option.id);
-        }
-    }
-    None
+    let option = find_option(option_in(word.strip_prefix('-')?))?;
+    Some(option.id)
 }
 
 /// Returns the advice to write two hyphens, for the first of the arguments `words` that is the name
@@ -274,8 +269,8 @@ fn other_advice(alloc: Global, words: &[&str]) -> Option<String> {
 /// allocation fails.
 fn needs_advice(alloc: Global, words: &[&str]) -> Option<String> {
     for option in options() {
-        if let Some(other) = option.needs {
-            if is_among(words, option.id) && !is_among(words, other) {
+        for other in option.needs {
+            if is_among(words, option.id) && !is_among(words, *other) {
                 return format!(in alloc; "--{} needs --{other}", option.id).ok();
             }
         }

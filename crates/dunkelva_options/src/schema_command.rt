@@ -1,8 +1,8 @@
 //! The command line of `dunkelva schema`.
 
-use crate::command::with_option;
+use crate::command::{CliInput, args_of};
 use crate::options::{CliOption, options};
-use clap::{Arg, Command};
+use clap::Command;
 use std::alloc::{AllocError, Global};
 
 /// The text after the options in `dunkelva schema --help`.
@@ -29,36 +29,54 @@ const SHARED: [&str; 6] = [
     "format",
 ];
 
-/// Returns `option` with the help text that it has in `dunkelva schema`. The other fields are
-/// unchanged.
-fn of_schema(option: CliOption) -> CliOption {
-    let help = match option.id {
-        "input" => "The format of the file; without it its name tells it",
-        "null" => "A field that is WORD, one word, is null",
-        "format" => "Print lines to read, or a JSON object in each line",
-        _ => option.help,
-    };
-    CliOption { help, ..option }
+/// The help texts of options that have another text in `dunkelva diff`.
+const TEXTS: [(&str, &str); 3] = [
+    (
+        "input",
+        "The format of the file; without it its name tells it",
+    ),
+    ("null", "A field that is WORD, one word, is null"),
+    (
+        "format",
+        "Print lines to read, or a JSON object in each line",
+    ),
+];
+
+/// Returns the help text that `option` has in `dunkelva schema`.
+fn help_of(option: &CliOption) -> &'static str {
+    for (id, text) in &TEXTS {
+        if option.id == *id {
+            return *text;
+        }
+    }
+    option.help
 }
 
-/// Creates the required positional argument that names the file to read.
-fn file_arg<'a>(alloc: Global) -> Arg<'a> {
-    Arg::new(alloc, "file")
-        .value_name("FILE")
-        .help("The file, or - for standard input")
-        .required(true)
+/// Returns the options of `dunkelva schema`.
+fn schema_options(alloc: Global) -> Result<Vec<CliOption>, AllocError> {
+    let mut shared = Vec::new(alloc);
+    for option in options() {
+        if SHARED.contains(&option.id) {
+            let help = help_of(option);
+            shared.push(CliOption { help, ..*option })?;
+        }
+    }
+    Ok(shared)
 }
+
+/// The file to read.
+const FILE: CliInput = CliInput {
+    id: "file",
+    name: "FILE",
+    help: "The file, or - for standard input",
+    unless: &[],
+};
 
 /// Creates the command `dunkelva schema`, which prints the schema of a file.
 pub(crate) fn schema_command<'a>(alloc: Global) -> Result<Command<'a>, AllocError> {
-    let mut command = Command::new(alloc, "schema")
+    let args = args_of(alloc, &[FILE], &schema_options(alloc)?)?;
+    Command::new(alloc, "schema")
         .about("Says what is in a CSV or NDJSON file")
         .after_help(NOTES)
-        .arg(file_arg(alloc))?;
-    for option in options() {
-        if SHARED.contains(&option.id) {
-            command = with_option(alloc, command, of_schema(*option))?;
-        }
-    }
-    Ok(command)
+        .args(args)
 }
