@@ -49,7 +49,7 @@ good-append (p ∷ xs) ys good more = (
   good-append xs ys good.1 more,
 )
 
-only-one : (cs : List Column) → length cs ≡ 1 → cs ≡ only cs ∷ []
+pub only-one : (cs : List Column) → length cs ≡ 1 → cs ≡ only cs ∷ []
 only-one [] one = cc
 only-one (c ∷ []) one = refl
 only-one (c ∷ d ∷ cs) one = absurd (omega (arith, one))

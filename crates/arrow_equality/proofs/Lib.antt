@@ -3,6 +3,8 @@ pub mod Examples
 pub mod FieldWitnesses
 pub mod Fields
 pub mod LentPlaces
+pub mod ListColumns
+pub mod ListPlaces
 pub mod NullRows
 pub mod NumberColumns
 pub mod StringColumns

@@ -107,7 +107,7 @@ pub ruleset pairs = (same-pairs)
 
 -- ---- the array of strings
 
-abbrev whole : Option ℕ → ℤ
+abbrev pub whole : Option ℕ → ℤ
 whole (Some at) = pos at
 whole None = negsuc 0
 
@@ -115,7 +115,7 @@ whole-place : (p : Option ℕ) → natural_of (whole p) ≡ p
 whole-place (Some at) = refl
 whole-place None = refl
 
-whole-places : (all : List (Option ℕ)) → places (λ (x : ℤ). x) (map whole all) ≡ all
+pub whole-places : (all : List (Option ℕ)) → places (λ (x : ℤ). x) (map whole all) ≡ all
 whole-places [] = refl
 whole-places (p ∷ all) =
     ap₂ (λ (q : Option ℕ) (rest : List (Option ℕ)). q ∷ rest) (whole-place p) (whole-places all)

@@ -1,5 +1,6 @@
 pub mod Compared
 pub mod Equal
+pub mod Lists
 pub mod Nulls
 pub mod Numbers
 pub mod PartStrings

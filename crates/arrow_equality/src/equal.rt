@@ -9,6 +9,7 @@ ghost use Rattle.arrow_equality.specs.Equal.{AreEqualIn, IsComparison, IsCountIn
 ghost use Rattle.arrow_equality.specs.Equal.{IsRefusedComparison, IsTrueRefusal};
 
 use crate::compared::{Compared, compare, write};
+use crate::lists::compare_lists;
 use crate::strings::compare_in_place;
 use crate::structs::{ByField, LentComparison, Whole};
 use arrow_arrays::build::build;
@@ -48,8 +49,24 @@ fn compare_parts(alloc: Global, left: &[Part<'_>], right: &[Part<'_>]) -> Result
     compare_arrays(alloc, &left, &right)
 }
 
-/// Compares two lent arrays, row by row. If `compare_in_place` can compare them, nothing but the
-/// validities is copied. Otherwise builds both arrays first. Fails as `compare_parts` does.
+/// Compares two lent arrays, row by row, by `compare_lists` if it can compare them. Otherwise builds
+/// both arrays first. Fails as `compare_parts` does.
+fn compare_nested(alloc: Global, left: &[Part<'_>], right: &[Part<'_>]) -> Result<Compared, Refused>
+    ensures compared { IfOk result
+        (IsComparison (rows_of_parts left.now) (rows_of_parts right.now)) }
+    ensures good { IfOk result (λ _. AreGoodParts left.now × AreGoodParts right.now) }
+    ensures refused { IfErr result (IsRefusedComparison left.now right.now) }
+{
+    let found = compare_lists(alloc, left, right)?;
+    match found {
+        Some(compared) => Ok(compared),
+        None => compare_parts(alloc, left, right),
+    }
+}
+
+/// Compares two lent arrays, row by row. If `compare_in_place` or `compare_lists` can compare them,
+/// nothing but the validities is copied. Otherwise builds both arrays first. Fails as
+/// `compare_parts` does.
 pub fn compare_whole(
     alloc: Global,
     left: &[Part<'_>],
@@ -61,7 +78,7 @@ pub fn compare_whole(
     ensures refused { IfErr result (IsRefusedComparison left.now right.now) }
 {
     if left.len() != 1 || right.len() != 1 {
-        return compare_parts(alloc, left, right);
+        return compare_nested(alloc, left, right);
     }
     let found = compare_in_place(alloc, &left[0], &right[0])?;
     match found {

@@ -3,6 +3,7 @@
 
 mod compared;
 pub mod equal;
+mod lists;
 pub mod nulls;
 mod numbers;
 mod part_strings;

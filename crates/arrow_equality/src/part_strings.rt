@@ -22,7 +22,7 @@ use std::str::from_utf8;
 /// Returns `offset - base`, an index, without a check. The offset must not be negative or less than
 /// `base`.
 #[inline(always)]
-fn place_of<O: Offset>(offset: O, base: usize) -> usize
+pub fn place_of<O: Offset>(offset: O, base: usize) -> usize
     requires { place_from base (natural_of (O.value offset)) ≢ None }
     ensures { place_from base (natural_of (O.value offset)) ≡ Some result }
 {
@@ -32,7 +32,7 @@ fn place_of<O: Offset>(offset: O, base: usize) -> usize
 /// Returns whether offsets, less `base`, delimit strings among `n` bytes: there is an offset, none
 /// is less than the one before, the first is at least `base`, and the last at most `base + n`.
 /// Returns `false` also if `base + n` is not below 2^64.
-fn are_good<O: Offset>(offsets: &[O], base: usize, n: usize) -> bool
+pub fn are_good<O: Offset>(offsets: &[O], base: usize, n: usize) -> bool
     ensures { IsTrue result → AreGood n (places_from base O.value offsets.now) }
 {
     let Some(end) = base.checked_add(n) else {
