@@ -3,9 +3,11 @@ pub mod Examples
 pub mod FieldWitnesses
 pub mod Fields
 pub mod LentPlaces
+pub mod LentViews
 pub mod ListColumns
 pub mod ListPlaces
 pub mod NullRows
 pub mod NumberColumns
 pub mod StringColumns
 pub mod StructColumns
+pub mod ViewColumns

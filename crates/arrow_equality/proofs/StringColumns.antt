@@ -127,7 +127,7 @@ array_of p all = record { offsets = map whole all; values = p.u8s.now; validity 
 -- ---- rows
 
 -- the bit of two rows
-bit-told : (bit raw pl pr : Bool) (xs ys : List ℕ) → bit ≡ joined_bit true raw pl pr → raw ≡ bytes_eq xs ys → (bit ≡ true) ↔ (kept pl (Bytes xs) ≡ kept pr (Bytes ys))
+pub bit-told : (bit raw pl pr : Bool) (xs ys : List ℕ) → bit ≡ joined_bit true raw pl pr → raw ≡ bytes_eq xs ys → (bit ≡ true) ↔ (kept pl (Bytes xs) ≡ kept pr (Bytes ys))
 bit-told bit raw true true xs ys is told = (
   (λ set. ap (λ (bs : List ℕ). Bytes bs) ((bytes_eq-Decides xs ys).0 (sym told ∙ sym is ∙ set))),
   (λ e. let bytes : Bytes xs ≡ Bytes ys = e in let same : xs ≡ ys = cc in is ∙ told ∙ (bytes_eq-Decides xs ys).1 same),

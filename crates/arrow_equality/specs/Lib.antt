@@ -6,3 +6,4 @@ pub mod Numbers
 pub mod PartStrings
 pub mod Strings
 pub mod Structs
+pub mod Views

@@ -7,5 +7,7 @@ mod lists;
 pub mod nulls;
 mod numbers;
 mod part_strings;
+mod part_views;
 mod strings;
 mod structs;
+mod views;

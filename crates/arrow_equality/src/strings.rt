@@ -16,6 +16,7 @@ ghost use Rattle.arrow_equality.specs.Strings.{AreComparedStrings};
 use crate::compared::Compared;
 use crate::numbers::compare_numbers_in_place;
 use crate::part_strings::{PartStrings, StringPairs};
+use crate::views::compare_views;
 use arrow_parts::bits::validity;
 use arrow_parts::part::{Part, PartKind};
 use arrow_parts::refused::Refused;
@@ -141,7 +142,7 @@ fn compare_strings<O: Offset>(
 }
 
 /// Compares two parts of the same kind, row by row, if both store equally many strings between
-/// offsets, or numbers of up to 64 bits, and are good parts by themselves. Copies only the
+/// offsets, views, or numbers of up to 64 bits, and are good parts by themselves. Copies only the
 /// validities. Returns `None` if the parts are of another kind, differ in kind or length, or are
 /// not good. Fails with `Parts` if a part has fewer validity bits than rows, and with `Memory` if
 /// an allocation fails.
@@ -170,6 +171,8 @@ pub fn compare_in_place(
         Some(PartKind::LargeUtf8) => {
             compare_strings(alloc, left, left.i64s, right, right.i64s, true)
         }
+        Some(PartKind::BinaryView) => compare_views(alloc, left, right, false),
+        Some(PartKind::Utf8View) => compare_views(alloc, left, right, true),
         Some(kind) => compare_numbers_in_place(alloc, kind, left, right),
         None => Ok(None),
     }

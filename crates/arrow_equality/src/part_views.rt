@@ -1,0 +1,232 @@
+//! Views of a part, which are checked and read in the part's own memory.
+#![tactic(auto)]
+
+ghost use Rattle.std.specs.Prelude.{◌≡◌, ◌≤◌, ◌<◌, ◌+◌, ◌*◌, ℕ, IsTrue, drop, length, take};
+ghost use Rattle.std.specs.Int.{w32, from_be_bytes};
+ghost use Rattle.std.specs.List.{All};
+ghost use Rattle.std.specs.Str.{IsCharBoundary, IsUtf8};
+ghost use Rattle.polars_arrays_bytes.specs.SizedStrings.{sized_string};
+ghost use Rattle.polars_arrays_flat.specs.ByteOrder.{AreBytes};
+ghost use Rattle.polars_arrays_views.specs.Texts.{LiesBetween};
+ghost use Rattle.polars_arrays_views.specs.Views.{AllZero, GoodView, InBuffer, buffer_at, row_bytes};
+ghost use Rattle.polars_arrays_views.specs.Views.{view_len};
+ghost use Rattle.arrow_parts.specs.Lent.{buffers_in, lent_buffers};
+ghost use Rattle.arrow_arrays.specs.Views.{LeadsToRow, NotNegative, view_in};
+ghost use Rattle.arrow_equality.specs.Views.{ArePartViews, LeadsToString};
+
+use crate::part_strings::is_text;
+use arrow_parts::part::{Bytes, Part};
+use polars_arrays_views::view::View;
+
+/// Returns view `i`, which is stored as the sixteen bytes from index `16 * i` on.
+#[inline(always)]
+pub fn view_at(views: &[u8], i: usize) -> View
+    requires { 16 * i + 16 ≤ length views.now }
+    ensures { result ≡ sized_string 16 views.now i }
+{
+    let mut all = [0u8; 16];
+    all.copy_from_slice(&views[16 * i..16 * i + 16]);
+    View::new(all)
+}
+
+/// Returns whether all bytes of the view after its row are 0. The row must have at most 12 bytes.
+/// No branch depends on the bytes.
+#[inline(always)]
+fn is_padded(view: &View) -> bool
+    requires { view_len view.now ≤ 12 }
+    ensures { IsTrue result → AllZero (drop (4 + view_len view.now) view.now) }
+{
+    // The row follows the four bytes of its length.
+    view.as_u128() >> 32 >> (8 * view.len()) == 0
+}
+
+/// Returns the four bytes from index `at` on as a big-endian number.
+#[inline(always)]
+fn prefix_at(bytes: &[u8], at: usize) -> u32
+    requires { at + 4 ≤ length bytes.now }
+    ensures value { result ≡ from_be_bytes w32 (take 4 (drop at bytes.now)) }
+    ensures bytes { AreBytes bytes.now }
+{
+    let b = &bytes[at..at + 4];
+    u32::from_be_bytes([b[0], b[1], b[2], b[3]])
+}
+
+/// Returns the bytes of the buffer with the index `number`.
+#[inline(always)]
+fn buffer_of<'a>(buffers: &[Bytes<'a>], number: usize) -> &'a [u8]
+    requires { number < length (lent_buffers buffers.now) }
+    ensures { result.now ≡ buffer_at (lent_buffers buffers.now) number }
+{
+    buffers[number].bytes
+}
+
+/// Returns whether the row of the view lies in one of `buffers` and begins with the view's prefix.
+/// The row must have more than 12 bytes.
+#[inline(always)]
+fn lies_in_buffer(view: &View, buffers: &[Bytes<'_>]) -> bool
+    requires { 12 < view_len view.now }
+    ensures { IsTrue result → InBuffer (lent_buffers buffers.now) view.now }
+{
+    let (number, at, len) = (view.buffer(), view.offset(), view.len());
+    if number >= buffers.len() {
+        return false;
+    }
+    let bytes = buffer_of(buffers, number);
+    at + len <= bytes.len() && prefix_at(bytes, at) == view.prefix()
+}
+
+/// Returns whether the length, the buffer's index and the offset of a view are below 2^31, that is,
+/// not negative in the Arrow format.
+#[inline(always)]
+fn is_not_negative(view: &View) -> bool
+    ensures { IsTrue result → NotNegative view.now }
+{
+    view.len() < 1 << 31 && view.buffer() < 1 << 31 && view.offset() < 1 << 31
+}
+
+/// Returns whether the view leads to a row: a row of at most 12 bytes is padded with zeros, and a
+/// longer one lies in one of `buffers` and begins with the view's prefix.
+#[inline(always)]
+fn leads_to_row(view: &View, buffers: &[Bytes<'_>]) -> bool
+    ensures { IsTrue result → LeadsToRow (lent_buffers buffers.now) view.now }
+{
+    if view.len() <= 12 {
+        return is_padded(view);
+    }
+    is_not_negative(view) && lies_in_buffer(view, buffers)
+}
+
+/// Returns the row of the view, which has more than 12 bytes and lies in one of `buffers`.
+#[inline(always)]
+pub fn long_row<'a>(view: &View, buffers: &[Bytes<'a>]) -> &'a [u8]
+    requires long { 12 < view_len view.now }
+    requires lies { InBuffer (lent_buffers buffers.now) view.now }
+    ensures { result.now ≡ row_bytes (lent_buffers buffers.now) view.now }
+{
+    let at = view.offset();
+    let bytes = buffer_of(buffers, view.buffer());
+    &bytes[at..at + view.len()]
+}
+
+/// Returns whether `bytes` is UTF-8. Bytes that are ASCII are checked many at a time.
+fn is_ascii_or_text(bytes: &[u8]) -> bool
+    ensures { IsTrue result → IsUtf8 bytes.now }
+{
+    bytes.is_ascii() || is_text(bytes)
+}
+
+/// Returns whether each buffer as a whole is UTF-8. Returns `false` also if the buffers together
+/// have more than 64 bytes for each of `rows` rows: most of their bytes may then belong to other
+/// arrays, and are not worth reading.
+fn hold_texts(buffers: &[Bytes<'_>], rows: usize) -> bool
+    ensures { IsTrue result → All IsUtf8 (lent_buffers buffers.now) }
+{
+    let mut room = rows.saturating_mul(64);
+    for i in 0..buffers.len() {
+        let bytes = buffer_of(buffers, i);
+        if bytes.len() > room || !is_ascii_or_text(bytes) {
+            return false;
+        }
+        room -= bytes.len();
+    }
+    true
+}
+
+/// Returns whether index `at` lies between characters: the byte at `at` is not a continuation byte
+/// of UTF-8, or `at` is the length of `bytes`.
+#[inline(always)]
+fn is_between(bytes: &[u8], at: usize) -> bool
+    requires { at ≤ length bytes.now }
+    ensures { IsTrue result → IsCharBoundary bytes.now at }
+{
+    if at == bytes.len() {
+        return true;
+    }
+    let byte = bytes[at];
+    byte < 128 || byte >= 192
+}
+
+/// Returns whether the row, which lies in one of `buffers`, begins and ends between characters.
+#[inline(always)]
+fn lies_between(view: &View, buffers: &[Bytes<'_>]) -> bool
+    requires { InBuffer (lent_buffers buffers.now) view.now }
+    ensures { IsTrue result → LiesBetween (lent_buffers buffers.now) view.now }
+{
+    let bytes = buffer_of(buffers, view.buffer());
+    let at = view.offset();
+    is_between(bytes, at) && is_between(bytes, at + view.len())
+}
+
+/// Returns whether a row of more than 12 bytes is UTF-8. `whole` may be true only if each buffer as
+/// a whole is UTF-8. If so, only the row's ends are read.
+#[inline(always)]
+fn is_long_text(view: &View, buffers: &[Bytes<'_>], whole: bool) -> bool
+    requires long { 12 < view_len view.now }
+    requires lies { InBuffer (lent_buffers buffers.now) view.now }
+    requires whole { IsTrue whole → All IsUtf8 (lent_buffers buffers.now) }
+    ensures { IsTrue result → IsUtf8 (row_bytes (lent_buffers buffers.now) view.now) }
+{
+    if whole {
+        return lies_between(view, buffers);
+    }
+    is_ascii_or_text(long_row(view, buffers))
+}
+
+/// Returns whether the row of the view is UTF-8. `whole` may be true only if each buffer as a whole
+/// is UTF-8.
+#[inline(always)]
+fn is_text_row(view: &View, buffers: &[Bytes<'_>], whole: bool) -> bool
+    requires good { GoodView (lent_buffers buffers.now) view.now }
+    requires whole { IsTrue whole → All IsUtf8 (lent_buffers buffers.now) }
+    ensures { IsTrue result → IsUtf8 (row_bytes (lent_buffers buffers.now) view.now) }
+{
+    if view.is_short() {
+        return view.is_ascii() || is_text(view.inlined());
+    }
+    is_long_text(view, buffers, whole)
+}
+
+/// Returns whether the view leads to a row, and to a row in UTF-8 if `texts` is true. `whole` may
+/// be true only if each buffer as a whole is UTF-8.
+#[inline(always)]
+fn leads_to_string(view: &View, buffers: &[Bytes<'_>], texts: bool, whole: bool) -> bool
+    requires { IsTrue whole → All IsUtf8 (lent_buffers buffers.now) }
+    ensures { IsTrue result → LeadsToString texts (lent_buffers buffers.now) view.now }
+{
+    if !leads_to_row(view, buffers) {
+        return false;
+    }
+    !texts || is_text_row(view, buffers, whole)
+}
+
+/// Returns whether each view of a part leads to a row, also where the row is null, and to a row in
+/// UTF-8 if `texts` is true.
+fn lead_to_strings(part: &Part<'_>, texts: bool) -> bool
+    requires { length part.now.u8s.now ≡ 16 * part.now.rows }
+    ensures { IsTrue result → (i : ℕ) → i < part.now.rows
+        → LeadsToString texts (buffers_in part.now) (view_in part.now i) }
+{
+    let (views, buffers) = (part.u8s, part.buffers);
+    let whole = texts && hold_texts(buffers, part.rows);
+    for i in 0..part.rows {
+        if !leads_to_string(&view_at(views, i), buffers, texts, whole) {
+            return false;
+        }
+    }
+    true
+}
+
+/// Returns whether a part has no child arrays, a name in UTF-8, sixteen bytes for each row, and
+/// views that lead to rows, also where the rows are null. If `texts` is true, the rows also have to
+/// be UTF-8. The validity is not checked.
+pub fn are_part_views(part: &Part<'_>, texts: bool) -> bool
+    ensures { IsTrue result → ArePartViews part.now texts }
+{
+    if part.children != 0 || !is_text(part.name) {
+        return false;
+    }
+    let Some(size) = part.rows.checked_mul(16) else {
+        return false;
+    };
+    part.u8s.len() == size && lead_to_strings(part, texts)
+}
