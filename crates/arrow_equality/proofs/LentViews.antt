@@ -1,24 +1,27 @@
 -- Views in a part's own memory.
 use Rattle.std.proofs.Common.{◌≡◌, ◌+◌, ◌-◌, ◌*◌, ◌/◌, ◌^◌, ◌≤◌, ◌<◌, ℕ, zero, suc, inl, inr, List, length, take, drop, refl, sym, ap, subst, ◌∙◌, arith}
 use Rattle.std.specs.Int.{w32, w128, byte_worth, from_be_bytes, from_le_bytes, sum_through, to_be_bytes}
-use Rattle.std.specs.Prelude.{Bool, false, slice_index}
-use Rattle.std.specs.Str.{bytes_eq}
+use Rattle.std.specs.Prelude.{Bool, slice_index}
+use Rattle.std.specs.Str.{IsAscii, IsUtf8, bytes_eq}
 use Rattle.std.proofs.Math.Nat.{div-lt_iff_lt-mul, pow-le-pow_right}
 use Rattle.std.proofs.lemmas.Bool.{cases_lt}
-use Rattle.std.proofs.lemmas.Bool.Decides.{leb_tells}
+use Rattle.std.proofs.lemmas.Str.{IsAscii-drop, IsAscii-take, IsUtf8-from_ascii}
+use Rattle.polars_arrays_bytes.proofs.Windows.{window_within}
+use Rattle.polars_arrays_flat.specs.Validity.{window}
 use Rattle.std.proofs.lemmas.List.{get_or-drop, length-drop, length-map, length-take}
 use Rattle.std.proofs.lemmas.Nat.{be_bytes_4, mul-le, pow-add, pow_pos}
 use Rattle.std.proofs.lemmas.Grind.{pow_more}
 use Rattle.polars_arrays_bytes.specs.SizedStrings.{sized_string}
 use Rattle.polars_arrays_flat.specs.ByteOrder.{AreBytes}
 use Rattle.polars_arrays_flat.specs.ByteOrderLaws.{bytes_drop, bytes_take}
-use Rattle.polars_arrays_views.specs.Views.{AllZero, InBuffer, IsView, buffer_at, is_short, row_bytes, view_buffer, view_len, view_offset, view_prefix}
+use Rattle.polars_arrays_views.specs.Views.{AllZero, InBuffer, IsView, buffer_at, row_bytes, view_buffer, view_len, view_offset, view_prefix}
 use Rattle.polars_arrays_views.proofs.GoodViews.{long_row}
 use Rattle.polars_arrays_words.proofs.Firsts.{length-first}
 use Rattle.arrow_parts.specs.Lent.{buffers_in, lent_buffers}
 use Rattle.arrow_parts.specs.declared.part.Bytes.{Bytes}
 use Rattle.arrow_parts.specs.declared.part.Part.{Part}
-use Rattle.arrow_equality.specs.Views.{ArePartViews, AreRowViews, same_rows}
+use Rattle.arrow_equality.specs.Views.{ArePartViews, AreRowViews, HoldsRow, IsAsciiStretch, same_rows}
+use Rattle.arrow_equality.specs.declared.part_views.Stretch.{Stretch}
 
 -- a term of a sum
 term_le : (f : ℕ → ℕ) (n i : ℕ) → i ≤ n → f i ≤ sum_through f n
@@ -85,13 +88,6 @@ lies-in buffers v bytes number at len m n view long low is begin size buffer fit
       prefix = sym told ∙ ap (λ k. take 4 (drop k bytes)) begin ∙ ap (λ bs. take 4 (drop (view_offset v) bs)) there;
     }
 
--- a row of more than 12 bytes is not in its view
-pub not-short : (v : List ℕ) → 12 < view_len v → is_short v ≡ false
-not-short v long = elim (leb_tells (view_len v) 12) [
-  | inl told ↦ absurd (omega (arith, told.1, long))
-  | inr told ↦ told.0
-]
-
 -- the bytes of a row in its buffer
 pub row-in : (buffers : List (List ℕ)) (v bytes : List ℕ) (at len : ℕ) → 12 < view_len v → at ≡ view_offset v → len ≡ view_len v → bytes ≡ buffer_at buffers (view_buffer v) → take (at + len - at) (drop at bytes) ≡ row_bytes buffers v
 row-in buffers v bytes at len long begin size buffer =
@@ -100,6 +96,18 @@ row-in buffers v bytes at len long begin size buffer =
     ∙ ap (λ n. take (view_len v) (drop n bytes)) begin
     ∙ ap (λ bs. take (view_len v) (drop (view_offset v) bs)) buffer
     ∙ sym (long_row buffers v long)
+
+-- a row in a stretch of ASCII bytes is a text
+pub stretch-text : (buffers : List (List ℕ)) (s : Stretch) (v : List ℕ) → IsAsciiStretch buffers s → 12 < view_len v → HoldsRow s v → IsUtf8 (row_bytes buffers v)
+stretch-text buffers s v ascii long holds =
+    let bytes = buffer_at buffers s.number in
+    let known = window s.from (s.to - s.from) bytes in
+    let at = view_offset v - s.from in
+    let start : s.from + at ≡ view_offset v = omega (arith, holds.begins) in
+    let inside : window at (view_len v) known ≡ window (s.from + at) (view_len v) bytes = window_within s.from (s.to - s.from) at (view_len v) bytes (omega (arith, holds.begins, holds.ends)) in
+    let cut : IsAscii (window at (view_len v) known) = IsAscii-take (drop at known) (view_len v) (IsAscii-drop known at ascii) in
+    let same : window at (view_len v) known ≡ row_bytes buffers v = inside ∙ ap (λ n. window n (view_len v) bytes) start ∙ ap (λ k. window (view_offset v) (view_len v) (buffer_at buffers k)) (sym holds.number) ∙ sym (long_row buffers v long) in
+    subst IsUtf8 same (IsUtf8-from_ascii (window at (view_len v) known) cut)
 
 -- the views of a part lead to rows
 pub row-views : (p : Part) (texts : Bool) (n : ℕ) → ArePartViews p texts → n ≡ p.rows → AreRowViews (buffers_in p) p.u8s.now n

@@ -3,10 +3,12 @@
 -- Of a part with the view 1 0 0 0 97 and eleven zeros, and another with the view 1 0 0 0 98 and
 -- eleven zeros, the rows are `a` and `b`: their bit is 0, and their count of comparisons is 1
 -- (`AreComparedViews`). With a 1 among the zeros the first part has no good views (`ArePartViews`).
-use Rattle.std.specs.Prelude.{◌≡◌, ◌<◌, ◌*◌, ◌-◌, ◌^◌, ℕ, Bool, true, List, IsTrue, length, min}
-use Rattle.std.specs.Str.{IsUtf8, bytes_eq}
+use Rattle.std.specs.Prelude.{◌≡◌, ◌<◌, ◌≤◌, ◌+◌, ◌*◌, ◌-◌, ◌^◌, ℕ, Bool, true, List, IsTrue, length, min}
+use Rattle.std.specs.Str.{IsAscii, IsUtf8, bytes_eq}
 use Rattle.polars_arrays_bytes.specs.SizedStrings.{sized_string}
-use Rattle.polars_arrays_views.specs.Views.{row_bytes}
+use Rattle.polars_arrays_flat.specs.Validity.{window}
+use Rattle.polars_arrays_views.specs.Views.{buffer_at, row_bytes, view_buffer, view_len}
+use Rattle.polars_arrays_views.specs.Views.{view_offset}
 use Rattle.polars_arrays_words.specs.Bits.{first_of}
 use Rattle.polars_compare_leaves.specs.Joining.{Joined}
 use Rattle.arrow_parts.specs.Lent.{buffers_in, present_in}
@@ -14,11 +16,22 @@ use Rattle.arrow_parts.specs.declared.part.Part.{Part}
 use Rattle.arrow_arrays.specs.Good.{HoldRows}
 use Rattle.arrow_arrays.specs.Views.{LeadsToRow, view_in}
 use Rattle.arrow_equality.specs.declared.compared.Compared.{Compared}
+use Rattle.arrow_equality.specs.declared.part_views.Stretch.{Stretch}
 
 -- a view leads to a row, and to a text if `texts` is true
 pub record LeadsToString (texts : Bool) (buffers : List (List ℕ)) (v : List ℕ) : Type 0 where
   pub leads : LeadsToRow buffers v
   pub utf8 : IsTrue texts → IsUtf8 (row_bytes buffers v)
+
+-- the bytes of a stretch of a buffer are ASCII
+abbrev pub IsAsciiStretch : List (List ℕ) → Stretch → Type 0
+IsAsciiStretch buffers s = IsAscii (window s.from (s.to - s.from) (buffer_at buffers s.number))
+
+-- the row of a view lies in a stretch of its buffer
+pub record HoldsRow (s : Stretch) (v : List ℕ) : Type 0 where
+  pub number : view_buffer v ≡ s.number
+  pub begins : s.from ≤ view_offset v
+  pub ends : view_offset v + view_len v ≤ s.to
 
 -- sixteen bytes for each of n views, and each view leads to a row
 pub record AreRowViews (buffers : List (List ℕ)) (views : List ℕ) (n : ℕ) : Type 0 where

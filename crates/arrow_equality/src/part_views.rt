@@ -1,18 +1,16 @@
 //! Views of a part, which are checked and read in the part's own memory.
 #![tactic(auto)]
 
-ghost use Rattle.std.specs.Prelude.{◌≡◌, ◌≤◌, ◌<◌, ◌+◌, ◌*◌, ℕ, IsTrue, drop, length, take};
+ghost use Rattle.std.specs.Prelude.{◌≡◌, ◌≤◌, ◌<◌, ◌+◌, ◌*◌, ℕ, List, IfSome, IsTrue, drop, length, take};
 ghost use Rattle.std.specs.Int.{w32, from_be_bytes};
-ghost use Rattle.std.specs.List.{All};
-ghost use Rattle.std.specs.Str.{IsCharBoundary, IsUtf8};
+ghost use Rattle.std.specs.Str.{IsUtf8};
 ghost use Rattle.polars_arrays_bytes.specs.SizedStrings.{sized_string};
 ghost use Rattle.polars_arrays_flat.specs.ByteOrder.{AreBytes};
-ghost use Rattle.polars_arrays_views.specs.Texts.{LiesBetween};
 ghost use Rattle.polars_arrays_views.specs.Views.{AllZero, GoodView, InBuffer, buffer_at, row_bytes};
 ghost use Rattle.polars_arrays_views.specs.Views.{view_len};
 ghost use Rattle.arrow_parts.specs.Lent.{buffers_in, lent_buffers};
 ghost use Rattle.arrow_arrays.specs.Views.{LeadsToRow, NotNegative, view_in};
-ghost use Rattle.arrow_equality.specs.Views.{ArePartViews, LeadsToString};
+ghost use Rattle.arrow_equality.specs.Views.{ArePartViews, HoldsRow, IsAsciiStretch, LeadsToString};
 
 use crate::part_strings::is_text;
 use arrow_parts::part::{Bytes, Part};
@@ -108,95 +106,132 @@ pub fn long_row<'a>(view: &View, buffers: &[Bytes<'a>]) -> &'a [u8]
     &bytes[at..at + view.len()]
 }
 
-/// Returns whether `bytes` is UTF-8. Bytes that are ASCII are checked many at a time.
-fn is_ascii_or_text(bytes: &[u8]) -> bool
-    ensures { IsTrue result → IsUtf8 bytes.now }
-{
-    bytes.is_ascii() || is_text(bytes)
+/// The number of bytes of a buffer that are checked at once where rows follow one another.
+const STRETCH_BYTES: usize = 1024;
+
+/// A stretch of ASCII bytes: those of the buffer with the index `number` from index `from` up to
+/// index `to`.
+#[derive(Clone, Copy)]
+pub struct Stretch {
+    pub number: usize,
+    pub from: usize,
+    pub to: usize,
 }
 
-/// Returns whether each buffer as a whole is UTF-8. Returns `false` also if the buffers together
-/// have more than 64 bytes for each of `rows` rows: most of their bytes may then belong to other
-/// arrays, and are not worth reading.
-fn hold_texts(buffers: &[Bytes<'_>], rows: usize) -> bool
-    ensures { IsTrue result → All IsUtf8 (lent_buffers buffers.now) }
-{
-    let mut room = rows.saturating_mul(64);
-    for i in 0..buffers.len() {
-        let bytes = buffer_of(buffers, i);
-        if bytes.len() > room || !is_ascii_or_text(bytes) {
-            return false;
-        }
-        room -= bytes.len();
-    }
-    true
-}
-
-/// Returns whether index `at` lies between characters: the byte at `at` is not a continuation byte
-/// of UTF-8, or `at` is the length of `bytes`.
+/// Returns whether the row of the view, which has more than 12 bytes, lies in a stretch.
 #[inline(always)]
-fn is_between(bytes: &[u8], at: usize) -> bool
-    requires { at ≤ length bytes.now }
-    ensures { IsTrue result → IsCharBoundary bytes.now at }
+fn holds_row(stretch: &Stretch, view: &View) -> bool
+    ensures { IsTrue result → HoldsRow stretch.now view.now }
 {
-    if at == bytes.len() {
-        return true;
-    }
-    let byte = bytes[at];
-    byte < 128 || byte >= 192
-}
-
-/// Returns whether the row, which lies in one of `buffers`, begins and ends between characters.
-#[inline(always)]
-fn lies_between(view: &View, buffers: &[Bytes<'_>]) -> bool
-    requires { InBuffer (lent_buffers buffers.now) view.now }
-    ensures { IsTrue result → LiesBetween (lent_buffers buffers.now) view.now }
-{
-    let bytes = buffer_of(buffers, view.buffer());
-    let at = view.offset();
-    is_between(bytes, at) && is_between(bytes, at + view.len())
-}
-
-/// Returns whether a row of more than 12 bytes is UTF-8. `whole` may be true only if each buffer as
-/// a whole is UTF-8. If so, only the row's ends are read.
-#[inline(always)]
-fn is_long_text(view: &View, buffers: &[Bytes<'_>], whole: bool) -> bool
-    requires long { 12 < view_len view.now }
-    requires lies { InBuffer (lent_buffers buffers.now) view.now }
-    requires whole { IsTrue whole → All IsUtf8 (lent_buffers buffers.now) }
-    ensures { IsTrue result → IsUtf8 (row_bytes (lent_buffers buffers.now) view.now) }
-{
-    if whole {
-        return lies_between(view, buffers);
-    }
-    is_ascii_or_text(long_row(view, buffers))
-}
-
-/// Returns whether the row of the view is UTF-8. `whole` may be true only if each buffer as a whole
-/// is UTF-8.
-#[inline(always)]
-fn is_text_row(view: &View, buffers: &[Bytes<'_>], whole: bool) -> bool
-    requires good { GoodView (lent_buffers buffers.now) view.now }
-    requires whole { IsTrue whole → All IsUtf8 (lent_buffers buffers.now) }
-    ensures { IsTrue result → IsUtf8 (row_bytes (lent_buffers buffers.now) view.now) }
-{
-    if view.is_short() {
-        return view.is_ascii() || is_text(view.inlined());
-    }
-    is_long_text(view, buffers, whole)
-}
-
-/// Returns whether the view leads to a row, and to a row in UTF-8 if `texts` is true. `whole` may
-/// be true only if each buffer as a whole is UTF-8.
-#[inline(always)]
-fn leads_to_string(view: &View, buffers: &[Bytes<'_>], texts: bool, whole: bool) -> bool
-    requires { IsTrue whole → All IsUtf8 (lent_buffers buffers.now) }
-    ensures { IsTrue result → LeadsToString texts (lent_buffers buffers.now) view.now }
-{
-    if !leads_to_row(view, buffers) {
+    if view.buffer() != stretch.number {
         return false;
     }
-    !texts || is_text_row(view, buffers, whole)
+    let at = view.offset();
+    stretch.from <= at && at + view.len() <= stretch.to
+}
+
+/// Returns how many bytes are checked at once from index `at` of a buffer on: `STRETCH_BYTES` if
+/// they follow `known`, a stretch of this buffer, and else none but the row that begins there.
+#[inline(always)]
+fn bytes_ahead(known: &Stretch, number: usize, at: usize) -> usize
+    ensures { result ≤ 1024 }
+{
+    if number == known.number && known.from <= at && at <= known.to {
+        STRETCH_BYTES
+    } else {
+        0
+    }
+}
+
+/// Returns a stretch of ASCII bytes that begins with the row of the view, which has more than 12
+/// bytes and lies in one of `buffers`. The stretch ends with the row, or after `STRETCH_BYTES`
+/// bytes if the row follows `known`. Returns `None` if a byte in it is not ASCII.
+fn stretch_from(view: &View, buffers: &[Bytes<'_>], known: &Stretch) -> Option<Stretch>
+    requires { InBuffer (lent_buffers buffers.now) view.now }
+    ensures ascii { IfSome result (IsAsciiStretch (lent_buffers buffers.now)) }
+    ensures row { IfSome result (λ s. HoldsRow s view.now) }
+{
+    let number = view.buffer();
+    let bytes = buffer_of(buffers, number);
+    let from = view.offset();
+    let ahead = bytes_ahead(known, number, from);
+    let to = bytes.len().min(from + ahead).max(from + view.len());
+    if !bytes[from..to].is_ascii() {
+        return None;
+    }
+    Some(Stretch { number, from, to })
+}
+
+/// Checks that a row of more than 12 bytes, which lies in one of `buffers`, is UTF-8. Returns
+/// `known`, or another stretch of ASCII bytes that holds the row. Returns `None` if the row is not
+/// UTF-8.
+#[inline(always)]
+fn long_text(view: &View, buffers: &[Bytes<'_>], known: Stretch) -> Option<Stretch>
+    requires long { 12 < view_len view.now }
+    requires lies { InBuffer (lent_buffers buffers.now) view.now }
+    requires ascii { IsAsciiStretch (lent_buffers buffers.now) known }
+    ensures text { IfSome result (λ _. IsUtf8 (row_bytes (lent_buffers buffers.now) view.now)) }
+    ensures ascii { IfSome result (IsAsciiStretch (lent_buffers buffers.now)) }
+{
+    if holds_row(&known, view) {
+        return Some(known);
+    }
+    match stretch_from(view, buffers, &known) {
+        Some(stretch) => Some(stretch),
+        None => {
+            if is_text(long_row(view, buffers)) {
+                Some(known)
+            } else {
+                None
+            }
+        }
+    }
+}
+
+/// Returns whether a row of at most 12 bytes is UTF-8.
+#[inline(always)]
+fn is_short_text(view: &View) -> bool
+    requires { view_len view.now ≤ 12 }
+    ensures { IsTrue result → (buffers : List (List ℕ)) → IsUtf8 (row_bytes buffers view.now) }
+{
+    view.is_ascii() || is_text(view.inlined())
+}
+
+/// Checks that the row of the view is UTF-8. Returns `known`, or another stretch of ASCII bytes
+/// that holds the row. Returns `None` if the row is not UTF-8.
+#[inline(always)]
+fn text_row(view: &View, buffers: &[Bytes<'_>], known: Stretch) -> Option<Stretch>
+    requires good { GoodView (lent_buffers buffers.now) view.now }
+    requires ascii { IsAsciiStretch (lent_buffers buffers.now) known }
+    ensures text { IfSome result (λ _. IsUtf8 (row_bytes (lent_buffers buffers.now) view.now)) }
+    ensures ascii { IfSome result (IsAsciiStretch (lent_buffers buffers.now)) }
+{
+    if view.len() > 12 {
+        return long_text(view, buffers, known);
+    }
+    if is_short_text(view) {
+        Some(known)
+    } else {
+        None
+    }
+}
+
+/// Checks that the view leads to a row, and to a row in UTF-8 if `texts` is true. Returns `known`,
+/// or another stretch of ASCII bytes that holds the row. Returns `None` if the check fails.
+#[inline(always)]
+fn string_row(view: &View, buffers: &[Bytes<'_>], texts: bool, known: Stretch) -> Option<Stretch>
+    requires { IsAsciiStretch (lent_buffers buffers.now) known }
+    ensures leads { IfSome result
+        (λ _. LeadsToString texts (lent_buffers buffers.now) view.now) }
+    ensures ascii { IfSome result (IsAsciiStretch (lent_buffers buffers.now)) }
+{
+    if !leads_to_row(view, buffers) {
+        return None;
+    }
+    if !texts {
+        return Some(known);
+    }
+    text_row(view, buffers, known)
 }
 
 /// Returns whether each view of a part leads to a row, also where the row is null, and to a row in
@@ -207,10 +242,15 @@ fn lead_to_strings(part: &Part<'_>, texts: bool) -> bool
         → LeadsToString texts (buffers_in part.now) (view_in part.now i) }
 {
     let (views, buffers) = (part.u8s, part.buffers);
-    let whole = texts && hold_texts(buffers, part.rows);
+    let mut known = Stretch {
+        number: 0,
+        from: 0,
+        to: 0,
+    };
     for i in 0..part.rows {
-        if !leads_to_string(&view_at(views, i), buffers, texts, whole) {
-            return false;
+        match string_row(&view_at(views, i), buffers, texts, known) {
+            Some(stretch) => known = stretch,
+            None => return false,
         }
     }
     true
