@@ -21,10 +21,11 @@
  * its rows. So the index of a byte or a bit fits into 64 bits. */
 #define MOST_ROWS (INT64_MAX / 64)
 
-/* The rows of a window. The kernel copies a window, unless it is one of numbers, of strings, of
- * views or of structs of these, and reads strings and views twice. Few rows stay in the cache of a
- * processor. For a column with dictionaries, all entries are copied for each window, and numbers
- * that are lent to the kernel are read once. So these windows are longer. */
+/* The rows of a window. The kernel copies a window, unless it is one of numbers, strings or views,
+ * of lists of these that are equally long on both sides, or of structs of these. It reads strings
+ * and views twice. Few rows stay in the cache of a processor. For a column with dictionaries, all
+ * entries are copied for each window, and numbers that are lent to the kernel are read once. So
+ * these windows are longer. */
 #ifndef WINDOW_ROWS
 #define WINDOW_ROWS 8192
 #define DICTIONARY_ROWS 16384
