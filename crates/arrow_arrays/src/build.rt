@@ -72,8 +72,8 @@ fn take_columns(
     Ok(columns)
 }
 
-/// Pops as many names from the stack `names` as there are columns, the topmost for the first
-/// column. Returns a field with the name and the type of each column. The only error is `Memory`.
+/// Pops a name for each column from the stack `names`, the topmost for the first column. Returns a
+/// field with the name and the type of each column. The only error is `Memory`.
 fn take_fields(
     alloc: Global,
     columns: &[AnyArray],
@@ -98,7 +98,7 @@ fn take_fields(
     Ok(fields)
 }
 
-/// Pops `count` child arrays from `stack`, and as many names from `names`. Returns the arrays, the
+/// Pops `count` child arrays from `stack`, and `count` names from `names`. Returns the arrays, the
 /// topmost first, with their names and types. Fails with `Parts` if `stack` has fewer arrays, and
 /// with `Memory` if an allocation fails.
 fn take_inside(

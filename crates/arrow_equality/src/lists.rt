@@ -292,9 +292,9 @@ fn compare_list_parts(
     }
 }
 
-/// Compares two lent lists, row by row, if their offsets are alike and their items are numbers or
-/// strings. Compares the items in place, so that no list is built. Returns `None` if the arrays are
-/// others, or are not good. The only error is `Memory`.
+/// Compares two lent lists, row by row, if both have the same offsets, and items that are numbers,
+/// strings or views. Compares the items in place, so that no list is built. Returns `None` for all
+/// other arrays, and for arrays that are not good. The only error is `Memory`.
 pub fn compare_lists(
     alloc: Global,
     left: &[Part<'_>],

@@ -89,6 +89,7 @@ pub(crate) fn changes_at(
     requires right { j < length sides.now.right.table.rows }
     ensures { IfOk result (λ v. map change_view v.items ≡ changes_at sides.now i j) }
 {
+    // The cells of a row are its keys, and after them the document.
     let place = sides.keys.len();
     let left = sides.left.table.cell(i, place);
     let right = sides.right.table.cell(j, place);

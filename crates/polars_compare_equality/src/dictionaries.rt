@@ -43,8 +43,8 @@ impl TotalEqKernel for DictionaryArray {
     }
 
     fn tot_eq_kernel(&self, alloc: Global, other: &Self) -> Result<Bitmap, ComputeError> {
-        let n = self.keys().len();
-        eq_dictionaries(alloc, self, 0, other, 0, n, &mut Steps::new())
+        let rows = self.keys().len();
+        eq_dictionaries(alloc, self, 0, other, 0, rows, &mut Steps::new())
     }
 
     fn tot_ne_kernel(&self, alloc: Global, other: &Self) -> Result<Bitmap, ComputeError> {

@@ -43,13 +43,13 @@ impl TotalEqKernel for FixedSizeListArray {
     }
 
     fn tot_eq_kernel(&self, alloc: Global, other: &Self) -> Result<Bitmap, ComputeError> {
-        let n = self.len();
+        let rows = self.len();
         // Lists of different widths have different types, and rows of different types are never
         // equal.
         if self.width() != other.width() {
-            return Bitmap::new_zeroed(alloc, n);
+            return Bitmap::new_zeroed(alloc, rows);
         }
-        eq_fixed_size_lists(alloc, self, 0, other, 0, n, &mut Steps::new())
+        eq_fixed_size_lists(alloc, self, 0, other, 0, rows, &mut Steps::new())
     }
 
     fn tot_ne_kernel(&self, alloc: Global, other: &Self) -> Result<Bitmap, ComputeError> {

@@ -21,6 +21,7 @@ use polars_compare_nested::windows::eq_lists;
 use std::alloc::Global;
 
 impl TotalEqKernel for ListArray {
+    // The items of one list.
     type Scalar = AnyArray;
 
     ghost comparable = { λ a b. (len_of (List a) ≡ len_of (List b))
@@ -45,8 +46,8 @@ impl TotalEqKernel for ListArray {
     }
 
     fn tot_eq_kernel(&self, alloc: Global, other: &Self) -> Result<Bitmap, ComputeError> {
-        let n = self.offsets().len();
-        eq_lists(alloc, self, 0, other, 0, n, &mut Steps::new())
+        let rows = self.offsets().len();
+        eq_lists(alloc, self, 0, other, 0, rows, &mut Steps::new())
     }
 
     fn tot_ne_kernel(&self, alloc: Global, other: &Self) -> Result<Bitmap, ComputeError> {

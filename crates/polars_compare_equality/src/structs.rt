@@ -39,13 +39,13 @@ impl TotalEqKernel for StructArray {
     }
 
     fn tot_eq_kernel(&self, alloc: Global, other: &Self) -> Result<Bitmap, ComputeError> {
-        let n = self.len();
+        let rows = self.len();
         // Structs with different fields have different types, and rows of different types are never
         // equal.
         if !same_fields(self.fields(), other.fields()) {
-            return Bitmap::new_zeroed(alloc, n);
+            return Bitmap::new_zeroed(alloc, rows);
         }
-        eq_structs(alloc, self, 0, other, 0, n, &mut Steps::new())
+        eq_structs(alloc, self, 0, other, 0, rows, &mut Steps::new())
     }
 
     fn tot_ne_kernel(&self, alloc: Global, other: &Self) -> Result<Bitmap, ComputeError> {

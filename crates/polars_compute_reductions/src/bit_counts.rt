@@ -56,6 +56,7 @@ impl<T: BitNumber> BitCount<T> for Ones {
 
     #[inline(always)]
     fn count(&self, number: T) -> u32 {
+        // For the proof: the number lies within the bounds of `T`.
         number.law_fits();
         number.count_ones()
     }
@@ -68,6 +69,7 @@ impl<T: BitNumber> BitCount<T> for Zeros {
 
     #[inline(always)]
     fn count(&self, number: T) -> u32 {
+        // For the proof: the number lies within the bounds of `T`.
         number.law_fits();
         number.count_zeros()
     }
@@ -80,6 +82,7 @@ impl<T: BitNumber> BitCount<T> for LeadingOnes {
 
     #[inline(always)]
     fn count(&self, number: T) -> u32 {
+        // For the proof: the number lies within the bounds of `T`.
         number.law_fits();
         number.leading_ones()
     }
@@ -93,6 +96,7 @@ impl<T: BitNumber> BitCount<T> for LeadingZeros {
 
     #[inline(always)]
     fn count(&self, number: T) -> u32 {
+        // For the proof: the number lies within the bounds of `T`.
         number.law_fits();
         number.leading_zeros()
     }
@@ -105,6 +109,7 @@ impl<T: BitNumber> BitCount<T> for TrailingOnes {
 
     #[inline(always)]
     fn count(&self, number: T) -> u32 {
+        // For the proof: the number lies within the bounds of `T`.
         number.law_fits();
         number.trailing_ones()
     }
@@ -118,6 +123,7 @@ impl<T: BitNumber> BitCount<T> for TrailingZeros {
 
     #[inline(always)]
     fn count(&self, number: T) -> u32 {
+        // For the proof: the number lies within the bounds of `T`.
         number.law_fits();
         number.trailing_zeros()
     }

@@ -20,8 +20,9 @@ use recorded_text::bytes_text::push_bytes;
 use recorded_text::fault::Fault;
 use std::fmt::Display;
 
-/// Appends the extremes of `array` that `asked` selects to `text`. The error is `Word` for
-/// `MinMaxIgnore`, since there is no such function for arrays of any kind, or else `Memory`.
+/// Appends the extremes of `array` that `asked` selects to `text`. Fails with `Word` if `asked` is
+/// `MinMaxIgnore`, for which the module `dispatch` has no function, and with `Memory` if an
+/// allocation fails.
 pub fn push_answer(text: &mut String, asked: Extremes, array: &AnyArray) -> Result<(), Fault> {
     match asked {
         Extremes::MinIgnore => push_extreme(text, dyn_array_min_ignore_nan(array)),

@@ -10,5 +10,5 @@ use Rattle.polars_compare_equality.proofs.dictionaries.DictionaryArrayTotalEqKer
 pub returns : goal.returns
 returns c =
     MatchResult-weaker c.eq_dictionaries.result c.eq_dictionaries.ensures.told
-    (λ bits raw. equal-bits (Dictionary c.args.self.now) (Dictionary c.args.other.now) (stored_entry c.args.self.now) (stored_entry c.args.other.now) _ _ _ bits (λ i low. dictionary-row c.args.self.now i c.requires.good low) (λ i low. dictionary-row c.args.other.now i c.requires.good_other low) (c.len-n.ensures ∙ ap key_count c.keys.ensures) c.requires.comparable.0 c.requires.comparable.1 raw)
+    (λ bits raw. equal-bits (Dictionary c.args.self.now) (Dictionary c.args.other.now) (stored_entry c.args.self.now) (stored_entry c.args.other.now) _ _ _ bits (λ i low. dictionary-row c.args.self.now i c.requires.good low) (λ i low. dictionary-row c.args.other.now i c.requires.good_other low) (c.len-rows.ensures ∙ ap key_count c.keys.ensures) c.requires.comparable.0 c.requires.comparable.1 raw)
     (λ error m. m)

@@ -10,12 +10,12 @@ use Rattle.polars_compare_equality.proofs.fixed_size_lists.FixedSizeListArrayTot
 pub returns-then-width : goal.returns-then-width
 returns-then-width c =
     MatchResult-weaker c.new_zeroed.result c.new_zeroed.ensures
-    (λ bits e. rw e (apart _ _ _ _ _ _ (λ e. c.if-width.true (c.width.ensures ∙ widths-equal _ _ _ _ e ∙ sym c.width-2.ensures)) (c.len-n.ensures ∙ sym (length-map-range_with_len (stored_fixed_list c.args.self.now) 0 _))))
+    (λ bits e. rw e (apart _ _ _ _ _ _ (λ e. c.if-width.true (c.width.ensures ∙ widths-equal _ _ _ _ e ∙ sym c.width-2.ensures)) (c.len-rows.ensures ∙ sym (length-map-range_with_len (stored_fixed_list c.args.self.now) 0 _))))
     (λ error m. m)
 
 pub returns : goal.returns
 returns c =
     let widths = sym c.width.ensures ∙ c.if-width.false ∙ c.width-2.ensures in
     MatchResult-weaker c.eq_fixed_size_lists.result c.eq_fixed_size_lists.ensures.told
-    (λ bits raw. equal-bits (FixedSizeList c.args.self.now) (FixedSizeList c.args.other.now) (stored_fixed_list c.args.self.now) (stored_fixed_list c.args.other.now) _ _ _ bits (λ i low. refl) (λ i low. refl) c.len-n.ensures c.requires.comparable.0 (ap₂ FixedSizeListKind c.requires.comparable.1 widths) raw)
+    (λ bits raw. equal-bits (FixedSizeList c.args.self.now) (FixedSizeList c.args.other.now) (stored_fixed_list c.args.self.now) (stored_fixed_list c.args.other.now) _ _ _ bits (λ i low. refl) (λ i low. refl) c.len-rows.ensures c.requires.comparable.0 (ap₂ FixedSizeListKind c.requires.comparable.1 widths) raw)
     (λ error m. m)
