@@ -3,7 +3,8 @@
 -- Of a part with the view 1 0 0 0 97 and eleven zeros, and another with the view 1 0 0 0 98 and
 -- eleven zeros, the rows are `a` and `b`: their bit is 0, and their count of comparisons is 1
 -- (`AreComparedViews`). With a 1 among the zeros the first part has no good views (`ArePartViews`).
-use Rattle.std.specs.Prelude.{◌≡◌, ◌<◌, ◌≤◌, ◌+◌, ◌*◌, ◌-◌, ◌^◌, ℕ, Bool, true, List, IsTrue, length, min}
+use Rattle.std.specs.Prelude.{◌≡◌, ◌<◌, ◌≤◌, ◌+◌, ◌*◌, ◌-◌, ◌^◌, ℕ, Bool, true, List, IsTrue}
+use Rattle.std.specs.Prelude.{length, min}
 use Rattle.std.specs.Str.{IsAscii, IsUtf8, bytes_eq}
 use Rattle.polars_arrays_bytes.specs.SizedStrings.{sized_string}
 use Rattle.polars_arrays_flat.specs.Validity.{window}

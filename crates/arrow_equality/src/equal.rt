@@ -49,8 +49,8 @@ fn compare_parts(alloc: Global, left: &[Part<'_>], right: &[Part<'_>]) -> Result
     compare_arrays(alloc, &left, &right)
 }
 
-/// Compares two lent arrays, row by row, by `compare_lists` if it can compare them. Otherwise builds
-/// both arrays first. Fails as `compare_parts` does.
+/// Compares two lent arrays, row by row, by `compare_lists` if it can compare them. Otherwise
+/// builds both arrays first. Fails as `compare_parts` does.
 fn compare_nested(alloc: Global, left: &[Part<'_>], right: &[Part<'_>]) -> Result<Compared, Refused>
     ensures compared { IfOk result
         (IsComparison (rows_of_parts left.now) (rows_of_parts right.now)) }

@@ -1,12 +1,14 @@
 //! Views of a part, which are checked and read in the part's own memory.
 #![tactic(auto)]
 
-ghost use Rattle.std.specs.Prelude.{◌≡◌, ◌≤◌, ◌<◌, ◌+◌, ◌*◌, ℕ, List, IfSome, IsTrue, drop, length, take};
+ghost use Rattle.std.specs.Prelude.{◌≡◌, ◌≤◌, ◌<◌, ◌+◌, ◌*◌, ℕ, List, IfSome, IsTrue, drop};
+ghost use Rattle.std.specs.Prelude.{length, take};
 ghost use Rattle.std.specs.Int.{w32, from_be_bytes};
 ghost use Rattle.std.specs.Str.{IsUtf8};
 ghost use Rattle.polars_arrays_bytes.specs.SizedStrings.{sized_string};
 ghost use Rattle.polars_arrays_flat.specs.ByteOrder.{AreBytes};
-ghost use Rattle.polars_arrays_views.specs.Views.{AllZero, GoodView, InBuffer, buffer_at, row_bytes};
+ghost use Rattle.polars_arrays_views.specs.Views.{AllZero, GoodView, InBuffer, buffer_at};
+ghost use Rattle.polars_arrays_views.specs.Views.{row_bytes};
 ghost use Rattle.polars_arrays_views.specs.Views.{view_len};
 ghost use Rattle.arrow_parts.specs.Lent.{buffers_in, lent_buffers};
 ghost use Rattle.arrow_arrays.specs.Views.{LeadsToRow, NotNegative, view_in};

@@ -7,7 +7,8 @@ ghost use Rattle.polars_arrays_views.specs.Views.{GoodView, row_bytes};
 ghost use Rattle.arrow_parts.specs.Lent.{buffers_in, lent_buffers};
 ghost use Rattle.arrow_parts.specs.Refusals.{IsHonest};
 ghost use Rattle.arrow_arrays.specs.Good.{HoldRows};
-ghost use Rattle.arrow_equality.specs.Views.{AreComparedViews, ArePartViews, AreRowViews, same_rows};
+ghost use Rattle.arrow_equality.specs.Views.{AreComparedViews, ArePartViews, AreRowViews};
+ghost use Rattle.arrow_equality.specs.Views.{same_rows};
 
 use crate::compared::Compared;
 use crate::part_views::{are_part_views, long_row, view_at};

@@ -33,8 +33,8 @@ fn classes_for<L: ByteRows>(
     Ok(classes)
 }
 
-/// Returns for each of `classes` the first right row without a partner whose key has this class (see
-/// `class_of`), or `None` if there is no such row.
+/// Returns for each of `classes` the first right row without a partner whose key has this class
+/// (see `class_of`), or `None` if there is no such row.
 fn heads_of(
     alloc: Global,
     classes: &[usize],

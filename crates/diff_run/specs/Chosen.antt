@@ -1,8 +1,8 @@
 -- What the options choose of the columns of two tables.
 --
 -- Of tables with the columns "id", "city" and "id", "day" the options may ignore "day", but not
--- "age", which is unknown to both. Where columns that one table has alone are left out, no column is
--- left to compare: "id" is the key, or is ignored.
+-- "age", which is unknown to both. Where columns that one table has alone are left out, no column
+-- is left to compare: "id" is the key, or is ignored.
 use Rattle.std.specs.Borrow.{Bor}
 use Rattle.std.specs.Prelude.{◌≡◌, ◌==◌, ◌&&◌, ◌||◌, ℕ, Bool, true, not, List, [], All}
 use Rattle.std.specs.Prelude.{Option, None, Some, length, codes, map}

@@ -155,7 +155,8 @@ IsToleranceFault tables (error.Write cause) = ⊥
 abbrev pub IsComparedFault : Options → Names → Both → RunError → Type 0
 IsComparedFault options names both error.Memory = ⊤
 IsComparedFault options names both (error.WideExponent side line name) =
-    HasWideNumber (numeric_columns options.numbers names) names (table_on side both).table.rows name.items
+    HasWideNumber (numeric_columns options.numbers names) names
+    (table_on side both).table.rows name.items
 IsComparedFault options names both error.TooManyRows =
     ¬ (HaveFew both.left.table.rows both.right.table.rows)
 IsComparedFault options names both (error.KeyTwice side first again) = ⊥
