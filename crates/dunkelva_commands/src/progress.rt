@@ -70,6 +70,7 @@ impl<'a> Progress<'a> {
         reading.bytes = reading.bytes.saturating_add(bytes as u64);
         let time = match start.elapsed(self.rt) {
             Ok(elapsed) => elapsed.as_millis(),
+            // The clock can't be read: 0 is before `next`, so nothing is printed.
             Err(_) => 0,
         };
         if reading.next <= time {
@@ -92,6 +93,7 @@ impl<'a> Progress<'a> {
     pub(crate) fn erase(&self) {
         let mut reading = self.reading.get();
         if reading.is_shown {
+            // The escape sequence `ESC [ K` erases from the cursor to the end of the line.
             let _ = eprint!(self.rt; "\r\x1b[K");
             reading.is_shown = false;
             self.reading.set(reading);

@@ -91,6 +91,7 @@ fn compare_tables(
     if options.choice.keys.is_empty() || options.unique || !can_repeat(rt, left, right) {
         return compare_named(rt, left, right, may_be_documents, task, target);
     }
+    // Nothing is written if this fails at a repeated key.
     let first = compare_unique(rt, (left, right), may_be_documents, options, target);
     compare_again(rt, (left, right), may_be_documents, first, task, target)
 }
@@ -150,6 +151,7 @@ fn diff_by_names(
         format: format_of(matches),
         colored: is_colored(rt, matches),
     };
+    // With `--input csv`, a file that begins like a JSON document is read as CSV too.
     let is_said = matches.contains_id("input");
     if matches.get_flag("sorted") {
         refuse_unsorted(matches)?;
@@ -190,6 +192,7 @@ fn compare_documents(
     if options.keys.is_empty() || options.unique || !can_repeat(rt, left, right) {
         return compare_named(rt, left, right, true, task, target);
     }
+    // Nothing is written if this fails at a repeated key.
     let first = compare_unique_documents(rt, (left, right), options, target);
     compare_again(rt, (left, right), true, first, task, target)
 }
@@ -250,6 +253,7 @@ fn diff(rt: &HostRuntime, matches: &ArgMatches<'_>, config: &Config) -> Result<u
     let target = target_of(rt, matches)?;
     refuse_two_formats(rt, matches, left, right)?;
     if matches.get_flag("schema-only") {
+        // An invalid `--limit` is reported as such before `compare_schemas` refuses the option.
         limit_of(matches)?;
         let shown = compare_schemas(rt, matches, left, right);
         return shown.map_err(|error| explained(rt, error, &[left, right]));

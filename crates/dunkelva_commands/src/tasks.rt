@@ -411,9 +411,9 @@ pub(crate) fn can_repeat(rt: &HostRuntime, left: &str, right: &str) -> bool {
 }
 
 /// Returns `first`, the result of a comparison of the files named `left` and `right` with unique
-/// keys, unless it is the error that a key is repeated. Then compares the files as `compare_named`
-/// does with `task`, which allows repeated keys, prints a warning that names the key on standard
-/// error, and returns the exit status.
+/// keys, unless it is the error that a key is repeated. In this case compares the files once more
+/// (`compare_named`), with `task`, which allows repeated keys, and prints `first` as a warning on
+/// standard error. Returns the exit status. Fails as `compare_named` does.
 pub(crate) fn compare_again(
     rt: &HostRuntime,
     (left, right): (&str, &str),

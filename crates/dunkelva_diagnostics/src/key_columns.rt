@@ -40,8 +40,9 @@ fn cells_of(alloc: Global, row: &ByteRecord, columns: &[usize]) -> Option<String
 }
 
 /// Reads the regular file `file` again, and returns the key of the row that begins at the line
-/// `line`, as text. The first line is 1. Returns `None` if the file can't be read again, lacks a
-/// key column or has no such row, or if an allocation fails.
+/// `line`, as text. The first line is 1. Of several rows that begin at this line, the first one
+/// counts. Returns `None` if the file can't be read again, lacks a key column or has no such row,
+/// or if an allocation fails.
 pub(crate) fn row_key(
     rt: &HostRuntime,
     file: &str,
@@ -53,6 +54,7 @@ pub(crate) fn row_key(
     let columns = places_of(alloc, &source.names(alloc).ok()?, options.choice.keys)?;
     let mut reader = source.rows(alloc).ok()?;
     let mut row = Box::new(alloc, ByteRecord::new(alloc)).ok()?;
+    // At most `line` rows begin up to this line, unless carriage returns alone end rows.
     for _ in 0..line {
         let begin = reader.read(&mut row).ok()??;
         if begin == line {

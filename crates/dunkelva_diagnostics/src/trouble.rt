@@ -93,7 +93,9 @@ fn is_empty(rt: &HostRuntime, file: &str) -> bool {
 const UNSEEN: &str = "its columns are shown only for a file, and JSON lines need --input ndjson";
 
 /// Returns the error for `file`, which lacks the key column at the index `key` of the keys in
-/// `options`. Usually a hint says what is wrong with the file, or lists its columns.
+/// `options`. A hint says what is wrong with the file, or lists its columns if these can be read
+/// again. If the file begins with `{`, the error has the cause `Records` and no hint yet: one is
+/// added later.
 fn no_key(rt: &HostRuntime, file: &str, key: usize, options: &Options<'_>) -> Error {
     let Some(name) = options.choice.keys.get(key) else {
         return trouble!("a key column is missing");
@@ -127,7 +129,7 @@ fn option_of(tolerance: &Tolerance<'_>) -> &'static str {
 }
 
 /// Returns the name of the option that gives the list `list`, and the names in the list. For
-/// tolerances the slice of names is empty.
+/// tolerances, which two options give, returns `ABSOLUTE` and no names.
 fn names_in<'a>(list: NameList, options: &Options<'a>) -> (&'static str, &'a [&'a [u8]]) {
     match list {
         NameList::Only => ("only", options.choice.only.unwrap_or(&[])),
@@ -332,7 +334,8 @@ fn fault_text(fault: LineFault, keys: &[&[u8]]) -> Error {
 
 /// Returns the error for the line `line`, which is not a document for the reason `fault`. `column`
 /// is the place of the fault in the line, from 1, if it is known. `keys` are the paths of the key,
-/// as text.
+/// as text. If the line is not a JSON object and `column` is known, the error is marked with this
+/// place, so that a hint can be added later.
 fn line_trouble(line: u64, column: Option<u64>, fault: LineFault, keys: &[&[u8]]) -> Error {
     let text = fault_text(fault, keys);
     let Some(column) = column else {

@@ -4,9 +4,10 @@
 //! If no document has a part at the first step of any path of `--only`, no difference is found,
 //! whatever the documents are: such a comparison is refused. A misspelt path of `--ignore` or of a
 //! tolerance has no effect. With `--no-key-is-null`, a misspelt path of `--key` makes this part of
-//! the key null in all documents. All paths at which no document has a part are reported on
+//! the key null in all documents. The paths at which no document has a part are reported on
 //! standard error after the comparison. To find parts, the files are read again: before the
-//! comparison for the refusal, and after it for the warnings.
+//! comparison for the refusal, and after it for the warnings. If a file can't be read again,
+//! nothing is refused, and only some of the paths are reported, or none.
 
 use clap::ArgMatches;
 use dunkelva_messages::error::{Error, Result};
@@ -146,7 +147,8 @@ fn push_patterns<'a, 'p>(
     Ok(())
 }
 
-/// Returns the path in the text of a tolerance, such as `price` in `price=0.01`.
+/// Returns the path in the text of a tolerance, such as `price` in `price=0.01`: the text before
+/// the last equals sign, or all of it if there is none.
 fn path_in(text: &str) -> &str {
     match text.rsplit_once('=') {
         Some((path, _)) => path,
@@ -207,8 +209,8 @@ fn push_keys<'a, 'p>(
 
 /// Returns the paths to look for. If `second` can't be read again, these are only the paths of
 /// `--only`. Otherwise they are also those of `--ignore` and of the tolerances, and with
-/// `--no-key-is-null` those of `--key`. Without `--no-key-is-null`, a missing part of the key is an
-/// error of the comparison.
+/// `--no-key-is-null` those of `--key`. Without `--no-key-is-null`, a document that lacks a part of
+/// the key is an error of the comparison, or is skipped with `--skip-bad`.
 fn sought_in<'a, 'p>(
     alloc: Global,
     matches: &ArgMatches<'a>,
@@ -266,7 +268,7 @@ impl Search<'_, '_> {
 
     /// Opens the regular file `file`, apart from the comparison, and searches its lines for the
     /// paths until the search is over. Returns `None` if `file` isn't a regular file, if it can't
-    /// be opened or read, or if memory runs out.
+    /// be opened or read, if a line in question is not UTF-8, or if memory runs out.
     fn search_file(&mut self, rt: &HostRuntime, file: &str) -> Option<()> {
         let source = open_again(rt, file)?;
         let reader = BufReader::new(rt.alloc(), source).ok()?;
@@ -376,7 +378,7 @@ fn push_starts<'a, 'p>(
 }
 
 /// Searches the files `left` and `right` for the first steps of the paths of `--only`, which
-/// `rules` has. Returns an error if there are documents, and none has a part at one of these steps.
+/// `rules` has. Returns an error if there are documents, and none has a part at any of these steps.
 /// Otherwise, or if a file can't be read again, or if memory runs out, returns `None`.
 fn unknown_only(
     rt: &HostRuntime,
@@ -430,8 +432,8 @@ pub fn refuse_unknown_only(
 /// Prints a warning for each path of `--only`, `--ignore` and the tolerances at which no document
 /// of the files `left` and `right` has a part. With `--no-key-is-null`, does so for the paths of
 /// `--key` too. If only one file can be read again, looks only for the paths of `--only`, in that
-/// file. Prints nothing if neither file can be read again, or if the searched files have no
-/// documents.
+/// file. Prints nothing if neither file can be read again, if the searched files have no documents,
+/// or if the search fails, for example at a line that is not UTF-8.
 pub fn warn_of_unknown(
     rt: &HostRuntime,
     matches: &ArgMatches<'_>,

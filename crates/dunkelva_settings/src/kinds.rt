@@ -58,10 +58,10 @@ fn names_table(name: &str) -> bool {
     has_extension(name, ".csv") || has_extension(name, ".tsv")
 }
 
-/// Checks the file named `other`, which is to be compared with the file named `documents`. Fails if
-/// `other` begins like a known format that is not UTF-8 text, such as gzip, or is a CSV file by its
-/// name. Checks nothing, and reads no file, unless the name `documents` says that the file has JSON
-/// documents and the name `other` does not.
+/// Fails if the file `documents` has JSON documents by its name, and the file `other` seems to have
+/// none: `other` is a CSV file by its name, or begins like a known format that is not UTF-8 text,
+/// such as gzip. Reads `other` only if `documents` has JSON documents by its name and `other` does
+/// not.
 fn refuse_beside(rt: &HostRuntime, documents: &str, other: &str) -> Result<()> {
     if !names_documents(documents) || names_documents(other) {
         return Ok(());
@@ -141,7 +141,8 @@ fn given_of(matches: &ArgMatches<'_>, kind: GoesWith, takes_value: bool) -> Opti
     None
 }
 
-/// Fails if an option is given that is only for tables.
+/// Fails if an option is given that is only for tables. Of several such options, the error names
+/// one that takes a value, if there is one.
 pub fn refuse_table_options(matches: &ArgMatches<'_>) -> Result<()> {
     let tables = GoesWith::Tables;
     match given_of(matches, tables, true).or(given_of(matches, tables, false)) {
@@ -150,7 +151,8 @@ pub fn refuse_table_options(matches: &ArgMatches<'_>) -> Result<()> {
     }
 }
 
-/// Fails if an option is given that is only for documents.
+/// Fails if an option is given that is only for documents. Of several such options, the error names
+/// one that takes no value, if there is one.
 pub fn refuse_document_options(matches: &ArgMatches<'_>) -> Result<()> {
     let documents = GoesWith::Documents;
     match given_of(matches, documents, false).or(given_of(matches, documents, true)) {

@@ -19,7 +19,7 @@ fn named_part(text: &str) -> Option<Part> {
 
 /// Fails if a key column of `names` would be compared as numbers: `--numbers` is given, and
 /// `--text` does not name the column. The part that a row belongs to depends on the text of its
-/// key.
+/// key, so rows with the keys 1 and 1.0 could be in different parts.
 fn refuse_numbers(matches: &ArgMatches<'_>, names: &Names<'_>) -> Result<()> {
     if !matches.get_flag("numbers") {
         return Ok(());
@@ -46,7 +46,7 @@ fn unsorted(option: &str) -> Error {
 }
 
 /// Fails if `--numbers`, `--partition` or an option for tolerances is given. None of them can be
-/// given with `--sorted`, since sorted files are merged by the bytes of their keys.
+/// given with `--sorted`: sorted files are compared whole, and their cells as texts.
 pub fn refuse_unsorted(matches: &ArgMatches<'_>) -> Result<()> {
     if matches.get_flag("numbers") {
         return Err(unsorted("numbers"));

@@ -60,15 +60,15 @@ fn push_patterns(
 }
 
 /// Returns the number before the percent sign at the end of `word`, such as `2.5` for `2.5%`.
-/// Returns `None` if `word` does not end with a percent sign, or if the text before the sign has an
-/// exponent or is not a valid bound.
+/// Returns `None` if `word` does not end with a percent sign, or if the text before the sign is not
+/// a valid bound or has an exponent, since the hint appends `e-2` to it.
 fn without_percent(word: &str) -> Option<&str> {
     let number = word.strip_suffix('%')?;
     let is_plain = !number.contains(['e', 'E']) && Bound::read(number).is_ok();
     is_plain.then_some(number)
 }
 
-/// Returns whether a text is a number without a digit before its point, such as `.5`.
+/// Returns whether a text is a point and one or more digits after it, such as `.5`.
 fn lacks_zero(word: &str) -> bool {
     match word.strip_prefix('.') {
         Some(rest) => is_digits(rest),

@@ -22,9 +22,10 @@ fn refuse_key(option: &str, column: &str, keys: &[&[u8]]) -> Result<()> {
     Ok(())
 }
 
-/// Parses `word`, a tolerance for a column such as `amount=0.01`. The bound begins after the last
-/// equals sign. It is relative if the option's name `option` is `RELATIVE`, and else absolute.
-/// Fails if `word` has no equals sign, if the column is one of `keys`, or if the bound is invalid.
+/// Parses `word`, a tolerance for a column such as `amount=0.01`. The column's name may be in
+/// quotes. The bound begins after the last equals sign. It is relative if the option's name
+/// `option` is `RELATIVE`, and else absolute. Fails if `word` has no equals sign, if the column is
+/// one of `keys`, or if the bound is invalid.
 fn tolerance_of<'a>(option: &str, word: &'a str, keys: &[&[u8]]) -> Result<Tolerance<'a>> {
     let Some((column, number)) = word.rsplit_once('=') else {
         let takes = "a column and a bound such as amount=0.01";

@@ -108,6 +108,7 @@ impl<'a> Names<'a> {
 fn byte_of(text: &str) -> Option<u8> {
     if let Some(digits) = text.strip_prefix("\\x")
         && digits.len() == 2
+        // `from_str_radix` accepts a plus sign.
         && !digits.starts_with('+')
     {
         return u8::from_str_radix(digits, 16).ok();
@@ -246,11 +247,13 @@ pub fn format_of(matches: &ArgMatches<'_>) -> Format {
     }
 }
 
-/// Returns whether the environment variable `NO_COLOR` is set and not empty.
+/// Returns whether the environment variable `NO_COLOR` is set and not empty. Returns true if memory
+/// runs out.
 fn asks_no_color(rt: &HostRuntime) -> bool {
     match env::var(rt, "NO_COLOR") {
         Ok(value) => !value.is_empty(),
         Err(VarError::NotPresent) => false,
+        // The value is not UTF-8, and thus not empty, or there is no memory for it.
         Err(_) => true,
     }
 }
