@@ -233,10 +233,13 @@ fn sought_in<'a, 'p>(
 
 impl Search<'_, '_> {
     /// Parses `line` as a document, and marks the paths at which the document has a part as found.
-    /// Ignores a line that is not a JSON object. Fails if memory runs out.
-    fn read_line(&mut self, alloc: Global, line: &str) -> Result<(), AllocError> {
+    /// Ignores a line that is not UTF-8 or not a JSON object. Fails if memory runs out.
+    fn read_line(&mut self, alloc: Global, line: &[u8]) -> Result<(), AllocError> {
+        let Ok(text) = str::from_utf8(line) else {
+            return Ok(());
+        };
         let mut scratch = Scratch::new(alloc);
-        let document = match Value::parse(alloc, line, &mut scratch) {
+        let document = match Value::parse(alloc, text, &mut scratch) {
             Ok(document) => document,
             Err(json::Error::OutOfMemory) => return Err(AllocError),
             Err(_) => return Ok(()),
@@ -268,11 +271,11 @@ impl Search<'_, '_> {
 
     /// Opens the regular file `file`, apart from the comparison, and searches its lines for the
     /// paths until the search is over. Returns `None` if `file` isn't a regular file, if it can't
-    /// be opened or read, if a line in question is not UTF-8, or if memory runs out.
+    /// be opened or read, or if memory runs out.
     fn search_file(&mut self, rt: &HostRuntime, file: &str) -> Option<()> {
         let source = open_again(rt, file)?;
         let reader = BufReader::new(rt.alloc(), source).ok()?;
-        for line in reader.lines(rt.alloc()) {
+        for line in reader.split(rt.alloc(), b'\n') {
             let line = line.ok()?;
             self.read_line(rt.alloc(), &line).ok()?;
             if self.is_over() {
@@ -433,7 +436,7 @@ pub fn refuse_unknown_only(
 /// of the files `left` and `right` has a part. With `--no-key-is-null`, does so for the paths of
 /// `--key` too. If only one file can be read again, looks only for the paths of `--only`, in that
 /// file. Prints nothing if neither file can be read again, if the searched files have no documents,
-/// or if the search fails, for example at a line that is not UTF-8.
+/// or if the search fails.
 pub fn warn_of_unknown(
     rt: &HostRuntime,
     matches: &ArgMatches<'_>,
