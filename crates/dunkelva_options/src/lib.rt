@@ -8,3 +8,4 @@ pub mod lists;
 pub mod options;
 pub mod refusals;
 mod schema_command;
+mod values;
