@@ -236,7 +236,7 @@ static struct part *begin_part(struct walk *walk, struct layout layout, int64_t 
   return part;
 }
 
-/* Sets the name of the part of a field of a struct. Other names are no part of a type. */
+/* Sets the name of the part of a field of a struct. Other names do not belong to a type. */
 static void lend_name(struct part *part, const struct ArrowSchema *type) {
   if (type->name != NULL) {
     part->name.data = type->name;

@@ -26,8 +26,8 @@
  * - Each buffer must be as long as the interface requires. The interface does not pass the lengths
  *   of buffers, so no call can check them. A call checks everything else about an array, as far as
  *   the result depends on it, and returns a status if it finds a fault.
- * - A column can have 64 levels of nested types, 2^20 types in all, and 2^20 buffers to which views
- *   point.
+ * - A column can have at most 64 levels of nested types, 2^20 types in all, and 2^20 buffers to
+ *   which views point.
  *
  * The library is for little-endian machines with pointers of 64 bits. */
 #ifndef DUNKELVA_H
@@ -112,7 +112,7 @@ enum dunkelva_status {
   DUNKELVA_NO_ROOM = 3,
   /* An allocation failed. */
   DUNKELVA_NO_MEMORY = 4,
-  /* The call does not take columns of this type, or an enum argument has none of its values. */
+  /* The call does not take columns of this type, or an enum argument is no value of its enum. */
   DUNKELVA_NOT_SERVED = 5,
   /* A struct breaks the interface: a count or a length is wrong, a pointer is null, a struct was
    * released, or a child has fewer rows than its parent needs. Or the column has more types, levels
@@ -322,8 +322,8 @@ int32_t dunkelva_compare_number(enum dunkelva_test test, const struct ArrowSchem
 /* Operations that combine two numbers bit by bit. */
 enum dunkelva_join { DUNKELVA_AND = 0, DUNKELVA_OR = 1, DUNKELVA_XOR = 2 };
 
-/* Combines all rows of a column of numbers that are not null by and, or, xor, and stores the number
- * in `result`. If all rows are null, or if there are no rows, result->exists is 0.
+/* Combines all rows of a column of numbers that are not null by bitwise and, or, or xor, and stores
+ * the number in `result`. If all rows are null, or if there are no rows, result->exists is 0.
  *
  * Returns a status of columns, or
  * - DUNKELVA_NOT_SERVED if `join` is no value of enum dunkelva_join,
@@ -331,8 +331,8 @@ enum dunkelva_join { DUNKELVA_AND = 0, DUNKELVA_OR = 1, DUNKELVA_XOR = 2 };
 int32_t dunkelva_reduce_bits(enum dunkelva_join join, const struct ArrowSchema *type,
                              const struct ArrowArray *array, struct dunkelva_number *result);
 
-/* The bits of a number that are counted: all ones or all zeros, the ones or zeros before the first
- * other bit from the highest bit on (LEADING), or from the lowest bit on (TRAILING). */
+/* The bits of a number that are counted: all ones, all zeros, or only the ones or zeros before the
+ * first other bit, from the highest bit on (LEADING) or from the lowest bit on (TRAILING). */
 enum dunkelva_bits {
   DUNKELVA_ONES = 0,
   DUNKELVA_ZEROS = 1,
@@ -446,8 +446,8 @@ int32_t dunkelva_sign(enum dunkelva_sign_function sign, const struct ArrowSchema
                       uint8_t *present, size_t present_bytes, uint64_t *nulls);
 
 /* A state collects the distinct values of columns of numbers. Each row of these columns must be
- * null or in the range from `least` to `greatest`. A state records which numbers of the range and
- * whether a null came, but not how often or in which rows.
+ * null or in the range from `least` to `greatest`. A state records which numbers of the range
+ * came, and whether a null came, but not how often or in which rows.
  *
  * The struct and the memory of `bits` belong to the caller, and the library allocates nothing for a
  * state. A state can be copied, stored and sent to another machine: copy the struct and the words

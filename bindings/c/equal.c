@@ -27,8 +27,8 @@ static int32_t describe_window(struct pair *pair, int64_t done, int64_t count) {
   return dunkelva_describe(&pair->right, pair->right_first + done, count);
 }
 
-/* Returns whether both columns are passed to the kernel that compares numbers alone. It counts no
- * comparisons. */
+/* Returns whether both columns are passed to the kernel that takes only numbers. This kernel counts
+ * no comparisons. */
 static bool are_lent(const struct pair *pair) {
   return pair->comparisons == NULL && dunkelva_is_integers(&pair->left) &&
          dunkelva_is_integers(&pair->right);

@@ -3,11 +3,11 @@
 #include <stdio.h>
 #include <stdlib.h>
 
-/* Programs usually get columns from a library, such as pyarrow or GDAL. After its last use they
- * release each struct by its member `release`. If a struct is copied by `=`, only one of the two
- * may be released. This program fills in the structs itself: numbers of 32 bits, and a validity
- * bitmap, whose bit is 1 if a row is not null. Nothing here is allocated, so nothing is released.
- * `release` is set nevertheless, since a struct whose `release` is null counts as released. */
+/* Programs usually get columns from a library, such as pyarrow or GDAL. They release each struct by
+ * its member `release`, after its last use. If a struct is copied by `=`, only one of the two may
+ * be released. This program fills in the structs itself: numbers of 32 bits, and a validity bitmap,
+ * whose bit is 1 if a row is not null. Nothing here is allocated, so nothing is released. `release`
+ * is set nevertheless, since a struct whose `release` is null counts as released. */
 static void release_type(struct ArrowSchema *type) { type->release = NULL; }
 static void release_array(struct ArrowArray *array) { array->release = NULL; }
 

@@ -29,7 +29,8 @@ static const struct known_format whole_formats[] = {
     {"u", KIND_UTF8, 0},
     {"U", KIND_LARGE_UTF8, 0},
     /* dates, times of day, durations and intervals, as numbers of one unit; but "tiD" has two
-     * numbers of 32 bits, which only equality reads as one (`dunkelva_open_numbers`) */
+     * numbers of 32 bits, which only equality and states of distinct values read as one
+     * (`dunkelva_open_numbers`) */
     {"tdD", KIND_INT32, 0},
     {"tdm", KIND_INT64, 0},
     {"tts", KIND_INT32, 0},

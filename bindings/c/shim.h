@@ -23,9 +23,9 @@
 
 /* The rows of a window. The kernel copies a window, unless it is one of numbers, strings or views,
  * of lists of these that are equally long on both sides, or of structs of these. It reads strings
- * and views twice. Few rows stay in the cache of a processor. For a column with dictionaries, all
- * entries are copied for each window, and numbers that are lent to the kernel are read once. So
- * these windows are longer. */
+ * and views twice. So a window has few rows, which stay in the cache of a processor. Two kinds of
+ * windows are longer: those of a column with dictionaries, whose entries are all copied for each
+ * window, and those of numbers that are lent to the kernel, which are read once. */
 #ifndef WINDOW_ROWS
 #define WINDOW_ROWS 8192
 #define DICTIONARY_ROWS 16384

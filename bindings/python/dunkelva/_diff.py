@@ -199,7 +199,7 @@ def as_table(source: Source, side: str, value: object, key: Tuple[str, ...]) -> 
 
 
 def _pair(left: Side, right: Side, name: str) -> Tuple[Column, Column]:
-    """Makes columns of one type of two sides where that can be, and else of the type of each."""
+    """Makes columns of two sides: of one type if possible, or else each of its own type."""
     what = f"column {name!r}: " if name else ""
     try:
         return pair(left, right, what) if name else pair_rows(left, right)
@@ -231,7 +231,7 @@ def _one_column(source: Source, other: Source) -> Table:
 
 def _chosen(left: Table, right: Table, key: Tuple[str, ...], only: Optional[Iterable[str]],
             ignore: Iterable[str]) -> List[str]:
-    """Returns the columns to compare but those of the key."""
+    """Returns the columns to compare, without those of the key."""
     names = list(dict.fromkeys([*left.columns, *right.columns]))
     wanted = None if only is None else [only] if isinstance(only, str) else list(only)
     left_out = [ignore] if isinstance(ignore, str) else list(ignore)
@@ -320,7 +320,7 @@ def _equal_at(left: Column, left_rows: _Places, right: Column, right_rows: _Plac
 
 
 def _chunks(column: Column, rows: _Places) -> Tuple[_Places, _Places]:
-    """Returns for each row its chunk, and the first row of that."""
+    """Returns for each row its chunk, and the first row of that chunk."""
     ends = np.cumsum([len(chunk) for chunk in column.chunks])
     chunk = np.searchsorted(ends, rows, side="right")
     return chunk, np.concatenate([[0], ends])[chunk]

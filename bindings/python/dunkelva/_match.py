@@ -34,7 +34,7 @@ def match(keys: Sequence[Tuple[Column, Column]], left_rows: int, right_rows: int
             compare(column, column, 0, f"the key of {side}: ")  # reads no array that is none
         more = _codes(left, right)
         codes = more if place == 0 else _numbered(codes * (int(more.max(initial=0)) + 1) + more)
-    # the keys that come for the n-th time
+    # for each row: how many rows before it on its side have its key
     nth = np.concatenate([_occurrences(codes[:left_rows]), _occurrences(codes[left_rows:])])
     if nth.any():
         codes = _numbered(codes * (int(nth.max()) + 1) + nth)

@@ -222,7 +222,7 @@ def _compare_value(column: Column, test: int, value: object) -> npt.NDArray[np.b
 
 def _reduced(value: object, call: Any, join: Callable[[int, int], int],
              *before: int) -> Tuple[Type, Optional[int]]:
-    """Calls for each chunk, and joins what the chunks with a row that is present give."""
+    """Makes a call for each chunk, and joins the results of chunks with a row that is not null."""
     column = _column(value)
     found: Optional[int] = None
     for chunk in column.chunks:
@@ -318,7 +318,7 @@ def min_max(column: object) -> Tuple[Any, Any]:
 
 
 def extremes(held: Column) -> Tuple[Optional[int], Optional[int]]:
-    """Returns the least and the greatest number of a column that is no null, or None twice."""
+    """Returns the least and the greatest number of a column, or None twice if all are null."""
     lows: List[int] = []
     highs: List[int] = []
     for chunk in held.chunks:

@@ -1,9 +1,9 @@
 """Equality of plain arrays of numpy: whole numbers in one piece, without nulls.
 
-Short columns take most of their time around the call. So what other columns need is left out here.
-A helper in C (quick.c) reads the arrays and calls the library. Where it was not compiled or this
-Python can't load it, ctypes calls: structs are made once, and a call writes lengths and addresses
-into them.
+For short columns, most of the time is spent around the call. So what other columns need is left out
+here. A helper in C (quick.c) reads the arrays and calls the library. If it was not compiled or this
+Python can't load it, the library is called through ctypes: structs are made once, and each call
+writes lengths and addresses into them.
 """
 from __future__ import annotations
 
@@ -62,7 +62,8 @@ _IDLE: List[_Call] = []
 def equal_by_ctypes(left: Any, right: Any) -> Optional[npt.NDArray[np.bool_]]:
     """Compares two objects, or returns None where they are not plain.
 
-    Plain are two arrays of one type and one length, some rows in one piece.
+    Plain are two contiguous arrays of whole numbers, of one type and one length, with at least one
+    row.
     """
     if type(left) is not np.ndarray or type(right) is not np.ndarray:
         return None
@@ -87,7 +88,7 @@ def equal_by_ctypes(left: Any, right: Any) -> Optional[npt.NDArray[np.bool_]]:
 
 
 def by_helper() -> Optional[_Equal]:
-    """Returns what does the same by the helper, or None where there is no helper."""
+    """Returns a function that does the same by the helper, or None if there is no helper."""
     try:
         helper: Any = importlib.import_module("dunkelva._quick")
     except ImportError:

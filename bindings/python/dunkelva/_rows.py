@@ -38,7 +38,7 @@ def is_missing(value: object) -> bool:
     return isinstance(value, (np.datetime64, np.timedelta64)) and bool(np.isnat(value))
 
 
-# Classes whose values are never missing, and that of None itself.
+# Classes whose values are never missing, and the class of None.
 _PLAIN = frozenset({type(None), bool, int, str, bytes, bytearray, list, tuple, dict,
                     decimal.Decimal, datetime.date, datetime.datetime, datetime.time,
                     datetime.timedelta})
@@ -74,7 +74,7 @@ def infer(values: Iterable[object]) -> Type:
     """Returns the type of rows.
 
     Numbers are int64 where they fit, else uint64, else decimals. Dicts are structs of all members
-    that one of them has.
+    that any of them has.
     """
     rows = with_none(list(values))
     kinds = set(map(type, rows))
@@ -92,7 +92,7 @@ def infer(values: Iterable[object]) -> Type:
 
 
 def _is_whole(kind: type) -> bool:
-    """Says whether a class is one of whole numbers. np.timedelta64 is an np.integer, but none."""
+    """Says whether a class is one of whole numbers. np.timedelta64, an np.integer, is not."""
     return issubclass(kind, (int, np.integer)) and not issubclass(kind, (bool, np.timedelta64))
 
 
@@ -332,7 +332,7 @@ def _floats(rows: Sequence[Any], type: Type, kind: str) -> npt.NDArray[Any]:
 
 
 def _is_kept(row: Any, kind: str) -> bool:
-    """Says whether a whole number is a float of a type, or an np.longdouble one of Python."""
+    """Says whether a whole number is exact in a float type, or an np.longdouble in Python's."""
     if isinstance(row, np.longdouble):
         return bool(float(row) == row or row != row)
     return _is_float(row, kind)

@@ -43,7 +43,7 @@ class Unread:
         return self.rows
 
     def refuse(self) -> NoReturn:
-        """Raises the exception, each time a new one: it keeps no frames alive."""
+        """Raises a new exception each time, since raising the stored one keeps frames alive."""
         raise type(self.error)(str(self.error))
 
 

@@ -152,7 +152,7 @@ def packed(mask: npt.ArrayLike) -> npt.NDArray[np.uint8]:
 
 
 def validity(nulls: Optional[npt.NDArray[np.bool_]]) -> Optional[npt.NDArray[np.uint8]]:
-    """Returns the bits of a validity of which the null rows are given, or None where none is."""
+    """Returns the bits of a validity, given which rows are null, or None if no row is."""
     if nulls is None or not (np.count_nonzero(nulls[:_FIRST]) or np.count_nonzero(nulls[_FIRST:])):
         return None
     bits = packed(nulls)

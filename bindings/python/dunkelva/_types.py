@@ -110,7 +110,7 @@ def type_of_format(text: str, children: Tuple[Tuple[str, Type], ...],
 
 @functools.lru_cache(maxsize=256)
 def flat_type(text: str) -> Type:
-    """Returns the type of a format that has no others inside, mostly the same object again."""
+    """Returns the type of a format without types inside, mostly an object made before."""
     return Type(text)
 
 

@@ -19,8 +19,8 @@ from ._values import named, numbers_of, present_rows
 
 __all__ = ["Unique", "unique", "n_unique"]
 
-# The most words of 64 bits that `unique` takes for a state: one for each row, but at least these.
-# Where the range of a column needs more, its rows are sorted.
+# For a state, `unique` takes at most as many words of 64 bits as there are rows, or this many if
+# the rows are fewer. If the range of a column needs more words, its rows are sorted.
 _FEW_WORDS = 1 << 13
 
 # Rows that are read in one step. The library reads them twice: the second time from a cache.
@@ -289,10 +289,10 @@ def _with_null(values: npt.NDArray[Any], null: bool) -> Masked:
 
 
 def _ends_of(chunk: Chunk, first: int, part: Chunk) -> Iterator[Tuple[int, int]]:
-    """Gives the least and the greatest number of some rows of an array.
+    """Gives the least and the greatest number of some rows of an array, once or twice.
 
-    What is stored is looked at first, which takes less time, but what lies under nulls counts too.
-    Arrays of other programs are not read before the library has checked them.
+    The first pair is found in less time, but numbers stored under nulls count too. Arrays of other
+    programs get only the second pair: they are not read before the library has checked them.
     """
     stored = numbers_of(chunk) if part.rows > 0 and is_made_here(chunk) else None
     if stored is not None and stored.dtype.kind != "f" and chunk.type.entries is None:
@@ -303,9 +303,9 @@ def _ends_of(chunk: Chunk, first: int, part: Chunk) -> Iterator[Tuple[int, int]]
 
 
 def _new_state(kind: Type, low: int, high: int) -> Unique:
-    """Returns a state of a range that begins and ends at multiples of 64, as those of types do.
+    """Returns a state of a range that begins and ends at multiples of 64, as that of a type does.
 
-    So a word of its bits is one of a wider state too.
+    So each word of its bits is also a word of a wider state.
     """
     made: Unique = Unique.__new__(Unique)
     made._make(kind, (low // 64 * 64, high // 64 * 64 + 63))
@@ -313,10 +313,10 @@ def _new_state(kind: Type, low: int, high: int) -> Unique:
 
 
 def _widened(state: Unique, ends: Tuple[int, int], most: int) -> Optional[Unique]:
-    """Returns what a state has seen in one with room for other ends, or None where it is too wide.
+    """Copies a state to one that also has room for `ends`, or returns None if that is too wide.
 
-    Where rows lie further out than those before them, more of them probably do. So the range goes
-    on there as far again.
+    If rows lie outside of the range on one side, later rows probably do too. So the range is
+    extended on that side, by up to its own width.
     """
     low, high = ends
     used = np.flatnonzero(state._bits)

@@ -22,8 +22,9 @@ use std::sync::Arc;
 /// copy. An array that borrows nothing is an `Array<'static>`, which a function can return.
 ///
 /// A validity is copied if its first bit is not at the same position in its byte as the first row
-/// of the array, such as after [`slice`](Array::slice). Calls that compare rows read numbers in
-/// place, and copy rows of other types in blocks of some thousand rows.
+/// of the array, such as after [`slice`](Array::slice). Calls that compare rows read in place:
+/// numbers of 8 to 64 bits, texts, byte strings, lists of these that are equally long on both
+/// sides, and structs of these. They copy rows of other types in blocks of some thousand rows.
 ///
 /// The rows of an array can be compared, but not read back, except whole numbers:
 /// [`to_numbers`](Array::to_numbers).
@@ -285,7 +286,7 @@ impl<'a> Array<'a> {
         }
     }
 
-    /// Takes a column of another crate. `offset` rows of it come before the first.
+    /// Takes a column of another crate. Its first row comes after `offset` rows of the buffers.
     #[cfg(feature = "ffi")]
     pub(crate) fn foreign(foreign: Foreign<'a>, rows: usize, offset: usize) -> Self {
         Array {
@@ -305,7 +306,7 @@ impl<'a> Array<'a> {
         }
     }
 
-    /// Keeps a validity of its own, which has a bit for each row, the first of which comes first.
+    /// Sets a validity that the array owns. Bit `i` is for row `i`.
     pub(crate) fn with_present(self, present: Mask) -> Self {
         self.keeping(shared(present.into_bytes()))
     }

@@ -100,8 +100,8 @@ impl<'a> Bitmap<'a> {
         Ok(moved)
     }
 
-    /// Returns the bits of eight rows, those from `row` on, a multiple of 8. The bits of rows that
-    /// are not there mean nothing.
+    /// Returns the bits of eight rows, from `row` on, which is a multiple of 8. The bits after the
+    /// last row have no meaning.
     fn byte(self, row: usize) -> u8 {
         let at = row / 8;
         let above = self.bytes.get(at + 1).copied().unwrap_or(0);

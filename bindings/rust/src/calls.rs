@@ -51,8 +51,8 @@ impl EqualOptions {
         }
     }
 
-    /// Returns an error with a hint, if the options do not take the floats that it is about, and
-    /// the library takes all other types in the array.
+    /// Adds a hint to the error, if the refused type needs only the option `floats_by_bits`.
+    /// Returns other errors unchanged.
     fn explain(self, error: Error, left: &Array<'_>, right: &Array<'_>) -> Error {
         let by_bits = self.floats_by_bits(true);
         match &error {
@@ -67,7 +67,7 @@ impl EqualOptions {
         }
     }
 
-    /// Says whether arrays of the type of this one are compared.
+    /// Says whether the library compares arrays of this type with these options.
     fn takes(self, array: &Array<'_>) -> bool {
         let no_rows = array.slice(0, 0);
         no_rows.map_or(false, |it| {

@@ -161,7 +161,7 @@ impl Error {
         }
     }
 
-    /// Returns nothing for the status 0, and an error for each other.
+    /// Returns nothing for the status 0, and an error for any other status.
     pub(crate) fn check(status: i32) -> Result<(), Error> {
         Err(match status {
             0 => return Ok(()),

@@ -8,7 +8,7 @@
 //! 32 and 64 bits have formats such as `d:9,2,32` and `d:18,2,64`, with the precision, the scale
 //! and the bits.
 //!
-//! Intervals in days and milliseconds can be tested by [`equal`](crate::equal) and collected by
+//! Intervals in days and milliseconds can be compared by [`equal`](crate::equal) and collected by
 //! [`Unique`](crate::Unique). Calls that order numbers or calculate with them return
 //! [`Error::Unsupported`](crate::Error::Unsupported) for these intervals.
 //!

@@ -101,7 +101,7 @@ impl<'t> Reader<'t> {
         whole_name(format, &inside.join(", "))
     }
 
-    /// Reads the name of a field, with what divides it from its type.
+    /// Reads the name of a field, and the `: ` after it.
     fn label(&mut self) -> Option<&'t str> {
         let quoted = match self.rest.strip_prefix('"') {
             Some(inside) => {

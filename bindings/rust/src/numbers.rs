@@ -42,7 +42,7 @@ use std::slice;
 /// ```
 #[derive(Clone)]
 pub struct Numbers<'a, T> {
-    /// An array that is lent, whose rows are kept as numbers of type `T`.
+    /// An array with `Content::Lent`, whose rows are kept as numbers of type `T`.
     array: Array<'a>,
     of: PhantomData<T>,
 }
@@ -120,7 +120,7 @@ impl<'a, T: Number> Numbers<'a, T> {
         self.array
     }
 
-    /// Takes an array that is lent, whose rows are kept as numbers of type `T`.
+    /// Takes an array with `Content::Lent`, whose rows are kept as numbers of type `T`.
     fn kept_as(array: Array<'a>) -> Self {
         Numbers {
             array,
@@ -219,7 +219,7 @@ impl<T: Integer> Numbers<'_, T> {
         self.of_type(calls::reduce_bits(self, operation)?)
     }
 
-    /// Returns a number in the type of the rows, which has each number that a call returns.
+    /// Converts a number that a call returned into the type of the rows, which can represent it.
     fn of_type(&self, number: Option<i128>) -> Result<Option<T>, Error> {
         let same = |number| {
             T::try_from(number).map_err(|_| Error::NotRepresentable {

@@ -1,7 +1,7 @@
 //! The calls of libdunkelva: all that the compiler can't check.
 //!
 //! The library reads the structs and what they point to, which is as long as the interface asks
-//! ([`Structs`]). It writes to what it is lent for results alone, no more than their length, and
+//! ([`Structs`]). It writes only to the memory that it is lent for results, not past its end, and
 //! keeps nothing. So the functions of this module are safe, except `from_raw`.
 
 use crate::structs::{ArrowArray, ArrowSchema, Structs, Typed};

@@ -145,8 +145,8 @@ impl Offset for i64 {
     }
 }
 
-/// Returns the plain format of the whole numbers of 8 to 64 bits that a format stands for. The
-/// argument has no byte 0 at its end.
+/// Returns the plain format, such as `l`, of the whole numbers of 8 to 64 bits that a format stands
+/// for. The argument has no byte 0 at its end.
 pub(crate) fn numbers_of(format: &[u8]) -> Option<&'static [u8]> {
     let plain = [i8::FORMAT, i16::FORMAT, i32::FORMAT, i64::FORMAT]
         .into_iter()
@@ -191,7 +191,7 @@ fn decimal_bits(format: &str) -> u32 {
     }
 }
 
-/// Returns the number that a text of digits alone has.
+/// Returns the number of a text that has only digits.
 fn digits(text: &str) -> Option<i32> {
     let is_all = text.bytes().all(|it| it.is_ascii_digit());
     text.parse().ok().filter(|_| is_all)
