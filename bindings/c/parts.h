@@ -51,8 +51,8 @@ enum kind {
   KIND_UTF8_VIEW = 31
 };
 
-/* A window of rows of one array, without the arrays in it. Each kind has its own slices; all other
- * slices are empty. */
+/* A window of rows of one array, without the arrays in it. Each kind uses some of the slices; all
+ * other slices are empty. */
 struct part {
   uint32_t kind;
   uint32_t children; /* the number of arrays directly in this array */

@@ -6,11 +6,12 @@
 
 #include "dunkelva.h"
 
-/* A longer column lets other threads run, which for a shorter one takes more than it gives. */
+/* The most rows for which the call keeps the interpreter's lock: for so few rows it costs more to
+ * release the lock than to wait. */
 #define SHORT_COLUMN 32768
 
-/* Places in the tuple that the function keeps: the address of the library's call, numpy's class of
- * arrays, what makes an array of it, and its type of truth values. */
+/* Indices in the tuple that the function keeps: the address of the library's call, and numpy's
+ * `ndarray`, `empty` and `bool_`. */
 enum { CALL, CLASS, EMPTY, TRUTHS, PLACES };
 
 static void keep_type(struct ArrowSchema *type) { (void)type; }
@@ -41,7 +42,8 @@ static bool write_same(void *address, char letter, const Py_buffer *sides, const
   return status == DUNKELVA_OK;
 }
 
-/* Returns a truth value for each row of two arrays, or null where there are none. */
+/* Returns a numpy array with a truth value for each row. Returns NULL if the arrays are not plain,
+ * if they differ in format or length, or if a call fails. */
 static PyObject *compared(PyObject *kept, const Py_buffer *sides) {
   char letter = format_of(&sides[0]);
   if (letter == 0 || letter != format_of(&sides[1]) || sides[0].len != sides[1].len) {
@@ -64,7 +66,8 @@ static PyObject *compared(PyObject *kept, const Py_buffer *sides) {
   return made;
 }
 
-/* Compares two objects. Returns None where they are not plain: the package reads them then. */
+/* Compares two objects. Returns None if `compared` returns NULL or an object is no array of numpy:
+ * then the package reads the objects itself. */
 static PyObject *equal(PyObject *kept, PyObject *const *objects, Py_ssize_t count) {
   PyObject *arrays = PyTuple_GetItem(kept, CLASS), *made = NULL;
   Py_buffer sides[2];

@@ -31,7 +31,7 @@ def match(keys: Sequence[Tuple[Column, Column]], left_rows: int, right_rows: int
     codes: _Places = np.zeros(left_rows + right_rows, np.int64)
     for place, (left, right) in enumerate(keys):
         for side, column in (("left", left), ("right", right)):
-            compare(column, column, 0, f"the key of {side}: ")  # reads no array that is none
+            compare(column, column, 0, f"the key of {side}: ")  # refuses a bad array
         more = _codes(left, right)
         codes = more if place == 0 else _numbered(codes * (int(more.max(initial=0)) + 1) + more)
     # for each row: how many rows before it on its side have its key

@@ -348,7 +348,7 @@ def _with_room(state: Optional[Unique], column: Column, ends: Tuple[int, int]) -
 def _state_of(column: Column) -> Optional[Unique]:
     """Collects a column, or returns None where a state takes more room than its rows."""
     if column.type.format == "tiD":  # of these no row is the least
-        compare(column, column, 0, "column: ")  # reads no array that is none
+        compare(column, column, 0, "column: ")  # refuses a bad array
         return None
     state: Optional[Unique] = None
     for chunk in column.chunks:
