@@ -655,6 +655,8 @@ TROUBLES = (
      "table.csv: line 1, column 1: not valid JSON"),
     (["--input", "csv", "--key", "nope", "good.ndjson", "good.ndjson"],
      'no column is named "nope"'),
+    (["--skip-bad", "--only", "x", "cracked.ndjson", "good.ndjson"],
+     '--only: no document has a part at "x"\n'),
     (["--limit", "many", "good.ndjson", "good.ndjson"],
      '--limit takes a whole number such as 100, or 0 for all, not "many"\n'),
     (["--format", "xml", "good.ndjson", "good.ndjson"], "xml"),
@@ -730,6 +732,8 @@ dunkelva: warning: --only: no document has a part at "x[1]"
 dunkelva: warning: --ignore: no document has a part at "[]"
 ''', "--tolerance": b'''dunkelva: warning: --relative-tolerance: no document has a part at "[].a"
 '''}
+# what is printed after the report if a run skips the bad line of `cracked.ndjson`
+SKIPPED = b"Skipped 1 line of cracked.ndjson (line 1).\n"
 # words, and what is said beside the report, where a file is the standard input or all options warn
 WARNINGS = (
     (["--only", "d.A,id", "good.ndjson", "-"],
@@ -743,6 +747,8 @@ WARNINGS = (
     (["--key", "idd", "--no-key-is-null", "good.ndjson", "good.jsonl"],
      b'dunkelva: warning: --key: no document has a part at "idd"\n'),
     (["--key", "id", "--no-key-is-null", "good.ndjson", "good.jsonl"], b""),
+    (["--skip-bad", "--ignore", "x", "cracked.ndjson", "good.ndjson"],
+     b'dunkelva: warning: --ignore: no document has a part at "x"\n'),
     (["--ignore", "item[].price,id", "--tolerance", "totl=1,id=1", "--relative-tolerance", "a=b=1",
       "--only", "id,ID", "good.ndjson", "good.jsonl"],
      b'''dunkelva: warning: --only: no document has a part at "ID"
@@ -753,4 +759,5 @@ dunkelva: warning: --relative-tolerance: no document has a part at "a=b"
 )
 NAMED = {"nested.ndjson": b'{"order":{"id":1}}\n', "good.ndjson": b'{"id":1}\n',
          "good.jsonl": b'{"id":1.0}', "good.txt": b'{"id":1}\n',
+         "cracked.ndjson": b'\xff\n{"id":1}\n',
          "table.csv": b"id\n1\n", "table.ndjson": b"id\n1\n"}

@@ -875,12 +875,7 @@ def has_part(value, pattern):
 
 def warnings(sought, content, told="document"):
     """Returns the lines that a run which ends well says of paths of options at which no document of
-    the files has a part. `sought` has options and paths. Nothing is said of files that are not
-    UTF-8."""
-    try:
-        content.decode()
-    except UnicodeDecodeError:
-        return b""
+    the files has a part. `sought` has options and paths. Lines that are no documents don't count."""
     trees = [tree_of(line) for line in content.split(b"\n")]
     documents = [tree for tree, is_json in trees if is_json and isinstance(tree, Object)]
     lacking = [
@@ -931,10 +926,6 @@ def warned(pair):
 def refused_only(only, content):
     """Returns the line that a run over two files with this content says if they have documents and
     none has a part at the first step of a path of --only, and else nothing."""
-    try:
-        content.decode()
-    except UnicodeDecodeError:
-        return b""
     trees = [tree_of(line) for line in content.split(b"\n")]
     documents = [tree for tree, is_json in trees if is_json and isinstance(tree, Object)]
     starts = [steps_of(path)[:1] for path in only]
