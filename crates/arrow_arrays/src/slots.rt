@@ -1,5 +1,8 @@
 //! Conversion of a part's validity, numbers, truth values and byte strings to arrays. All data is
 //! copied.
+//!
+//! A part is a lent array without its child arrays. Its field `base` is the offset at which the
+//! lent bytes begin.
 #![tactic(auto, using(crate::proofs::SlotLemmas::refusals))]
 
 ghost use Rattle.std.specs.Prelude.{◌≡◌, length, IfOk, IfErr};

@@ -95,7 +95,7 @@ fn key_texts(
 }
 
 /// Returns the columns of `count` keys in a table of documents: 0 to `count - 1`. The column after
-/// these has the line.
+/// these has the text of each document.
 pub fn key_columns(alloc: Global, count: usize) -> Result<Vec<usize>, AllocError>
     ensures { IfOk result (λ columns. columns.items ≡ range_with_len 0 count) }
 {

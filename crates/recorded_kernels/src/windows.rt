@@ -9,6 +9,9 @@
 //!
 //! LEAVES is `always` or `never`, for a kernel in which all leaves agree, or none. Without it,
 //! leaves agree if they are equal.
+//!
+//! Each function also fails with `Word` if a word is missing or malformed, and with `Case` if an
+//! array does not exist.
 
 ghost use Rattle.std.specs.Prelude.{◌≡◌, ◌+◌, ◌≤◌, IfOk, IsTrue};
 ghost use Rattle.polars_arrays_nested.specs.GoodParts.{IsGood};
