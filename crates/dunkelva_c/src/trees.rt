@@ -50,9 +50,9 @@ pub extern "C" fn dunkelva_parts_equal(
     }
 }
 
-/// Sets bit `i` of `out` if row `i` of an array, a tree of parts in pre-order, is null, and sets
-/// all bits past the last row to 0. Sets `count` to the number of null rows. A row of a dictionary
-/// is null if its key is null, or if the entry of the key is null.
+/// Sets bit `i` of `out` to 1 if row `i` of an array is null, and sets all other bits to 0. Sets
+/// `count` to the number of null rows. `parts` has the lent arrays of which the array consists, in
+/// pre-order. A row of a dictionary is null if its key is null, or if the entry of the key is null.
 ///
 /// Returns 0 on success. Otherwise returns another status, and nothing is written. The status is 1
 /// if the parts make no array, 3 if `out` has fewer bits than rows, and 4 if an allocation fails.
