@@ -55,8 +55,8 @@ impl LentComparison for Whole {
     }
 }
 
-/// Compares structs field by field, and each field as `fields` does. Compares all other arrays by
-/// `compare_whole`.
+/// Compares structs field by field (see `compare_structs`), and each field as `fields` does.
+/// Compares all arrays for which `compare_structs` returns `None` by `compare_whole`.
 #[derive(Clone, Copy, Debug)]
 pub struct ByField<F> {
     pub fields: F,
