@@ -66,6 +66,7 @@ dl { margin: 0; display: grid; grid-template-columns: minmax(6rem, max-content) 
 dt { color: var(--quiet); overflow-wrap: anywhere; max-width: 18rem; }
 dd { margin: 0; min-width: 0; }
 .value { white-space: pre-wrap; overflow-wrap: anywhere; border-radius: 3px; padding: 0 0.2rem; }
+.value, .key, .where { unicode-bidi: isolate; }
 .left { background: var(--removed-back); color: var(--removed); }
 .right { background: var(--added-back); color: var(--added); }
 .none { font-style: italic; }

@@ -4,6 +4,7 @@
 //! parsed them. The functions that return a `Result` may also fail because an allocation fails.
 #![tactic(auto)]
 
+mod inputs;
 mod outputs;
 mod progress;
 pub mod run;

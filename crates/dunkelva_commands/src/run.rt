@@ -4,6 +4,7 @@
 //! output is a closed pipe. Otherwise it is 0. `run` prints the errors that the other functions
 //! return.
 
+use crate::inputs::refuse_packed;
 use crate::outputs::refuse_own_target;
 use crate::schema::show_schema;
 use crate::schema_changes::compare_schemas;
@@ -22,6 +23,7 @@ use dunkelva_messages::trouble;
 use dunkelva_options::command::command;
 use dunkelva_options::config::{Config, config_for, joined, named_files, with_file};
 use dunkelva_options::refusals::{advice_for, reason_in, without_tip};
+use dunkelva_settings::choices::refuse_nothing_left;
 use dunkelva_settings::keys::{Keys, keys_of};
 use dunkelva_settings::kinds::{
     hold_documents, refuse_document_options, refuse_table_options, refuse_two_formats,
@@ -259,6 +261,9 @@ fn diff(rt: &HostRuntime, matches: &ArgMatches<'_>, config: &Config) -> Result<u
         return shown.map_err(|error| explained(rt, error, &[left, right]));
     }
     refuse_own_target(rt, &[left, right], target)?;
+    refuse_packed(rt, left)?;
+    refuse_packed(rt, right)?;
+    refuse_nothing_left(rt.alloc(), matches)?;
     if hold_documents(rt, matches, left, right)? {
         return diff_documents(rt, matches, (left, right), target);
     }

@@ -76,17 +76,48 @@ fn question_about_delimiter(alloc: Global, other: char, delimiter: u8) -> Option
     format!(in alloc; "is {other:?} its delimiter? {both}").ok()
 }
 
-/// Returns a question about the column name `wanted`, which is not among `names`: whether another
-/// byte than `delimiter` is the real delimiter, or whether a similar name was meant. Returns `None`
-/// if neither is likely, if the similar name is not UTF-8, or if an allocation fails.
+/// Returns the first of `names` that has commas, and has `wanted` before, between or after them.
+/// Returns `None` if there is no such name in UTF-8.
+fn name_cut_at_comma<'n, N: ByteRows>(names: &'n N, wanted: &str) -> Option<&'n str> {
+    for c in 0..names.count() {
+        if let Ok(name) = str::from_utf8(names.bytes(c)) {
+            if name.contains(',') && name.split(',').any(|part| part == wanted) {
+                return Some(name);
+            }
+        }
+    }
+    None
+}
+
+/// Returns whether `wanted` is a number of one or two digits, as a column of a file without a
+/// header is named.
+fn is_index(wanted: &str) -> bool {
+    (1..=2).contains(&wanted.len()) && wanted.bytes().all(|byte| byte.is_ascii_digit())
+}
+
+/// Returns a question about the column name `wanted`, which is not among `names`, the columns of a
+/// file read with the options `csv`: whether the file has another delimiter, whether `wanted` is
+/// part of a name with a comma, whether the first line is a row, or whether a similar name was
+/// meant. Returns `None` if none of these is likely, if the similar name is not UTF-8, or if an
+/// allocation fails.
 fn question_about<N: ByteRows>(
     alloc: Global,
     names: &N,
-    delimiter: u8,
+    csv: CsvOptions,
     wanted: &str,
 ) -> Option<String> {
-    if let Some(other) = other_delimiter(names, delimiter) {
-        return question_about_delimiter(alloc, other, delimiter);
+    if let Some(other) = other_delimiter(names, csv.delimiter) {
+        return question_about_delimiter(alloc, other, csv.delimiter);
+    }
+    if let Some(name) = name_cut_at_comma(names, wanted) {
+        return format!(in alloc;
+            "did you mean {}? Put quotes around a name with a comma, as in '\"{name}\"'.",
+            quoted(name)
+        )
+        .ok();
+    }
+    if csv.has_header && is_index(wanted) {
+        return String::from_str(alloc, "is line 1 a row? Then give --no-header.").ok();
     }
     let near = nearest(names, wanted.as_bytes())?;
     if near >= names.count() {
@@ -102,7 +133,7 @@ fn question_about<N: ByteRows>(
 fn hint_about<N: ByteRows>(
     alloc: Global,
     names: &N,
-    delimiter: u8,
+    csv: CsvOptions,
     wanted: &str,
     file: Option<&str>,
 ) -> Option<String> {
@@ -111,7 +142,7 @@ fn hint_about<N: ByteRows>(
         Some(file) => format!(in alloc; " of {file}").ok()?,
         None => String::new(alloc),
     };
-    match question_about(alloc, names, delimiter, wanted) {
+    match question_about(alloc, names, csv, wanted) {
         Some(question) => format!(in alloc; "{question} The columns{whose} are {list}").ok(),
         None => format!(in alloc; "the columns{whose} are {list}").ok(),
     }
@@ -134,7 +165,7 @@ pub(crate) fn columns_hint(
         return None;
     }
     let file = is_named.then_some(file);
-    hint_about(rt.alloc(), &names, csv.delimiter, wanted, file)
+    hint_about(rt.alloc(), &names, csv, wanted, file)
 }
 
 /// Reads the regular file `file` again, and returns the name of the column at the index `column`,

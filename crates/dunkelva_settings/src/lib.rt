@@ -5,6 +5,7 @@
 //! parsed them. The functions that take `alloc` also fail if an allocation fails.
 #![tactic(auto)]
 
+pub mod choices;
 pub mod keys;
 pub mod kinds;
 pub mod parts;
