@@ -60,24 +60,14 @@ impl<'a> Progress<'a> {
     }
 
     /// Adds `bytes`, the number of bytes that were just read, to the number of all bytes read.
-    /// Prints the line if the time of the next update has come.
+    /// Prints the line if the time of the next update has come. Does nothing if the line is never
+    /// shown.
     fn add(&self, bytes: usize) {
+        let Some(start) = self.start else {
+            return;
+        };
         let mut reading = self.reading.get();
         reading.bytes = reading.bytes.saturating_add(bytes as u64);
-        self.reading.set(reading);
-        if let Some(start) = self.start {
-            self.update(start);
-        }
-    }
-
-    /// Returns whether no byte was read so far.
-    pub(crate) fn has_read_nothing(&self) -> bool {
-        self.reading.get().bytes == 0
-    }
-
-    /// Prints the line if the time of the next update has come. `start` is the start of the run.
-    fn update(&self, start: Instant) {
-        let mut reading = self.reading.get();
         let time = match start.elapsed(self.rt) {
             Ok(elapsed) => elapsed.as_millis(),
             // The clock can't be read: 0 is before `next`, so nothing is printed.
@@ -87,8 +77,8 @@ impl<'a> Progress<'a> {
             reading.next = time.saturating_add(PAUSE);
             reading.is_shown = true;
             self.say(reading.bytes);
-            self.reading.set(reading);
         }
+        self.reading.set(reading);
     }
 
     /// Prints the line, with `bytes` as the number of bytes read so far, over the previous line.

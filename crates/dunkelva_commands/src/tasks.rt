@@ -341,8 +341,8 @@ fn compared(
 }
 
 /// Runs the comparison `task` of the inputs `left` and `right`, which have the names `names`.
-/// Writes the report to `target`, and shows the progress meanwhile. At the end prints a warning if
-/// both inputs are empty, and advice (`advise`). Returns the exit status. Fails as `compared` does.
+/// Writes the report to `target`, shows the progress meanwhile, and prints advice at the end
+/// (`advise`). Returns the exit status. Fails as `compared` does.
 fn compare(
     rt: &HostRuntime,
     left: Source,
@@ -356,9 +356,6 @@ fn compare(
     progress.erase();
     match ending {
         Ok(ending) => {
-            if progress.has_read_nothing() {
-                let _ = eprintln!(rt; "dunkelva: warning: both inputs are empty");
-            }
             advise(rt, task, target, ending);
             Ok(ending.status())
         }
