@@ -89,10 +89,12 @@ fn name_cut_at_comma<'n, N: ByteRows>(names: &'n N, wanted: &str) -> Option<&'n 
     None
 }
 
-/// Returns whether `wanted` is a number of one or two digits, as a column of a file without a
-/// header is named.
+/// Returns whether `wanted` is a number from 1 to 99, as the first columns of a file without a
+/// header are named.
 fn is_index(wanted: &str) -> bool {
-    (1..=2).contains(&wanted.len()) && wanted.bytes().all(|byte| byte.is_ascii_digit())
+    (1..=2).contains(&wanted.len())
+        && !wanted.starts_with('0')
+        && wanted.bytes().all(|byte| byte.is_ascii_digit())
 }
 
 /// Returns a question about the column name `wanted`, which is not among `names`, the columns of a
