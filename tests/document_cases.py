@@ -409,10 +409,11 @@ FILES = (
      "mark: remove it, as tail -c +4 does"),
     ([], b"{}\n", b'{}\n\xef\xbb\xbf{"a":1}\n', 2,
      "right.ndjson: line 2, column 1: not valid JSON"),
-    # another file is no reason
+    # a packed file is refused before the files are read
     ([], b"\x1f\x8b\x08\0", b"{}\n", 2,
      "left.ndjson: it is compressed by gzip: unpack it, as in <(zcat FILE)"),
-    ([], b"x\n", b"\x1f\x8b\x08\0", 2, "left.ndjson: line 1, column 1: not valid JSON"),
+    ([], b"x\n", b"\x1f\x8b\x08\0", 2,
+     "right.ndjson: it is compressed by gzip: unpack it, as in <(zcat FILE)"),
     ([], b"{}\r{}\n", b"", 2, "left.ndjson: line 1, column 4: not valid JSON" + BEHIND),
     ([], b'{"a":\n1}\n', b"", 2,
      "left.ndjson: line 1, column 6: not valid JSON: the line ends before the document does"),

@@ -849,8 +849,10 @@ def faults_said(pair):
 def wanted(pair):
     """Returns the status that a run over a pair has to end with, and its report, or what it may
     say."""
-    content = b"\n".join((pair.left_bytes, pair.right_bytes))
-    refused = refused_only(pair.options.get("only", ()), content)
+    only, content = pair.options.get("only", ()), b"\n".join((pair.left_bytes, pair.right_bytes))
+    if only and set(only) <= set(pair.options.get("ignored", ())):
+        return 2, ["nothing is left to compare: --ignore has all that --only has"]
+    refused = refused_only(only, content)
     if refused and pair.options["piped"] is None:
         return 2, [refused.decode().removeprefix("dunkelva: ").rstrip("\n")]
     said, sides = faults_said(pair)
