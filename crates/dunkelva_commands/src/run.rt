@@ -202,7 +202,8 @@ fn compare_documents(
 /// Compares the files of documents `left` and `right` with the given keys and rules. The other
 /// options are those in `matches`. Writes the report to `target`, and returns the exit status.
 /// Prints warnings about paths in options at which no document has a part. Fails if an option is
-/// invalid, if no document has a part where a path of `--only` begins, or if the comparison fails.
+/// invalid, if no document has a part at the first step of any path of `--only`
+/// (`refuse_unknown_only`), or if the comparison fails.
 fn diff_by_paths(
     rt: &HostRuntime,
     matches: &ArgMatches<'_>,
