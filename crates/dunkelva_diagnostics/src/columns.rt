@@ -113,7 +113,7 @@ fn question_about<N: ByteRows>(
     }
     if let Some(name) = name_cut_at_comma(names, wanted) {
         return format!(in alloc;
-            "did you mean {}? Put quotes around a name with a comma, as in '\"{name}\"'.",
+            "did you mean {}? Put quotes around a name with a comma, as in '\"a,b\"'.",
             quoted(name)
         )
         .ok();
