@@ -6,7 +6,7 @@ use Rattle.diff_words.specs.Quoted.{byte_text, quoted}
 use Rattle.diff_words.specs.Words.{word_text}
 use Rattle.schema_columns.specs.declared.kind.Kind.TheVariants.{Truth, Whole, Text}
 use Rattle.schema_report.specs.Aligned.{aligned}
-use Rattle.schema_report.specs.Changes.{changes_text, counts_of, named}
+use Rattle.schema_report.specs.Changes.{changes_text, counts_of, nth_named}
 use Rattle.schema_report.specs.ColumnChanges.{kind_line}
 use Rattle.schema_report.specs.Text.{head_line}
 use Rattle.schema_report.specs.Words.{value_text}
@@ -42,16 +42,16 @@ abbrev name : List ℕ → List ℕ
 name part = take 1 part
 
 abbrev left : List (List ℕ)
-left = codes "ix" ∷ codes "nx" ∷ codes "ax" ∷ []
+left = codes "ix" ∷ codes "nx" ∷ codes "ax" ∷ codes "ny" ∷ []
 
 abbrev right : List (List ℕ)
-right = codes "ax" ∷ codes "iy" ∷ codes "dx" ∷ []
+right = codes "ax" ∷ codes "iy" ∷ codes "nx" ∷ codes "dx" ∷ []
 
-one-named : named name (codes "i") right ≡ Some (codes "iy")
-one-named = refl
+second-named : nth_named name (codes "n") 1 left ≡ Some (codes "ny")
+second-named = refl
 
-their-counts : counts_of name bytes_eq left right ≡ record { changed = 1; removed = 1; added = 1; same = 1 }
+their-counts : counts_of name bytes_eq left right ≡ record { changed = 1; removed = 1; added = 1; same = 2 }
 their-counts = refl
 
-their-changes : changes_text name bytes_eq (λ side s. s ++ codes " alone ") (λ s t. s ++ t ++ codes " ") left right ≡ codes "ixiy nx alone dx alone "
+their-changes : changes_text name bytes_eq (λ side s. s ++ codes " alone ") (λ s t. s ++ t ++ codes " ") left right ≡ codes "ixiy ny alone dx alone "
 their-changes = refl

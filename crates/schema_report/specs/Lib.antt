@@ -3,5 +3,6 @@ pub mod Changes
 pub mod ColumnChanges
 pub mod Grid
 pub mod JsonLines
+pub mod Laws
 pub mod Text
 pub mod Words

@@ -9,5 +9,6 @@ pub mod changes_text;
 pub mod files;
 mod grid;
 pub mod json_lines;
+pub mod laws;
 pub mod text;
 pub mod words;

@@ -1,7 +1,6 @@
-use Rattle.std.proofs.Common.{◌≡◌, take}
-use Rattle.std.specs.List.{count_by}
-use Rattle.schema_report.specs.Changes.{is_alone}
+use Rattle.std.proofs.Common.{◌≡◌, ◌≤◌, [], take}
+use Rattle.schema_report.specs.Changes.{is_alone, count_parts}
 use Rattle.schema_report.proofs.changes.count_alone.Given as goal
 
-abbrev pub invariant-loop-part : goal.invariant-loop-part
-invariant-loop-part g l = l.count ≡ count_by (is_alone g.S.SchemaPart.name_of l.others) (take l.part-index l.parts)
+abbrev pub invariant-loop-i : goal.invariant-loop-i
+invariant-loop-i g l = (l.count ≤ l.i) × (l.count ≡ count_parts (is_alone g.S.SchemaPart.name_of l.others) [] (take l.i l.parts))
